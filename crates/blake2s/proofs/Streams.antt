@@ -1,0 +1,126 @@
+-- A message in parts: two parts are as one, and a whole message as one part gives the definition of RFC 7693.
+use mathlib.Core.Path.{_≡_, refl, ap, sym, _∙_}
+use mathlib.Core.Bool.{Bool, true, false, cond, not}
+use mathlib.Core.List.{List, [], _∷_, _++_, foldl, append-assoc}
+use Prim.Native.Nat.{ℕ, zero, suc, _+_, _-_, _*_, _/_, _<_, _≤_}
+use native.Mathlib.Nat.{add-zero, zero-add}
+use native.Mathlib.Omega.{arith}
+use lib.Dec.{eqb}
+use lib.ListN.{length, take, drop, length-append, length-drop}
+use lib.Seq.{drop-append-le, take-all}
+use borrow.Author.Tests.{ne-eqb, eqb-true, eqb-false}
+use Rattle.blake2s.specs.Rfc7693.{F, words, bytes, padded, input, blockAt, blockCount, Compression, leading, compressions, compressed, initial, blake2s}
+use Rattle.blake2s.specs.Stream.{earlier, total, done, waiting, begun, extended, closed}
+use Rattle.blake2s.specs.declared.Context.{Context}
+use Rattle.blake2s.proofs.Lists.{foldl-snoc}
+use Rattle.blake2s.proofs.Blocks.{length-padded, block-last, block-behind, after, after-split}
+use Rattle.blake2s.proofs.Contexts.{last-fits, earlier-sum, waits, total-extended, done-extended, waiting-extended}
+
+module _ (c : Context) (long : length (c .block) ≡ 64) (s e : List ℕ) where
+  pub in-parts : extended (extended c s) e ≡ extended c (s ++ e)
+  unfolding extended
+  in-parts =
+      let d = waiting c ++ s in
+      let n = earlier (length d) in
+      let x = drop (64 * n) d in
+      let w : waiting (extended c s) ≡ x = waiting-extended c long s in
+      let o : done (extended c s) ≡ done c + 64 * n = done-extended c long s in
+      let v : 64 * n ≤ length d = last-fits (length d) .0 in
+      let a : waiting c ++ (s ++ e) ≡ d ++ e = sym (append-assoc (waiting c) s e) in
+      let lx : length (x ++ e) ≡ length d - 64 * n + length e = rw (length-append, length-drop) in
+      let ld : length (d ++ e) ≡ length d + length e = length-append d e in
+      let m = earlier (length (x ++ e)) in
+      let k : earlier (length (d ++ e)) ≡ n + m = rw (ld, lx) (earlier-sum (length d) (length e)) in
+      let y : blockAt (d ++ e) (n + m) ≡ blockAt (x ++ e) m = sym (block-behind (d ++ e) n m) ∙ ap (λ (z : List ℕ). blockAt z m) (drop-append-le (64 * n) d e v) in
+      let p : c .message + length (s ++ e) ≡ c .message + length s + length e = rw length-append (omega arith) in
+      rw (w, o, a, k, y, p, after-split n m (c .h) (done c) d e v)
+
+-- before the message: what came is the key's block, and all of it waits
+begun-total : (key : List ℕ) (nn : ℕ) → total (begun key nn) ≡ cond (eqb (length key) 0) 0 64
+unfolding total begun
+begun-total key nn = go (eqb (length key) 0)
+  where
+    go : (b : Bool) → cond (not b) 64 0 + 0 ≡ cond b 0 64
+    go true = refl
+    go false = refl
+
+begun-done : (key : List ℕ) (nn : ℕ) → done (begun key nn) ≡ 0
+unfolding done earlier
+begun-done key nn = rw (begun-total key nn) (go (eqb (length key) 0))
+  where
+    go : (b : Bool) → 64 * ((cond b 0 64 - 1) / 64) ≡ 0
+    go true = refl
+    go false = refl
+
+begun-waits : (key msg : List ℕ) (nn : ℕ) → length key ≤ 32 → waiting (begun key nn) ++ msg ≡ input key msg
+unfolding waiting begun input
+begun-waits [] msg nn h = rw (begun-total [] nn, begun-done [] nn)
+begun-waits (k ∷ ks) msg nn h =
+    let e : eqb (length (k ∷ ks)) 0 ≡ false = ne-eqb (length (k ∷ ks)) 0 (λ z. omega arith) in
+    let l : length (padded (k ∷ ks)) ≡ 64 = length-padded (k ∷ ks) (omega arith) in
+    rw (begun-total (k ∷ ks) nn, begun-done (k ∷ ks) nn, e) (ap (λ (x : List ℕ). x ++ msg) (take-all 64 (padded (k ∷ ks)) (omega arith)))
+
+-- the input's length is the counter of the last call,
+pub length-input : (key msg : List ℕ) → length key ≤ 32 → length (input key msg) ≡ cond (eqb (length key) 0) (length msg) (length msg + 64)
+unfolding input
+length-input [] msg h = refl
+length-input (k ∷ ks) msg h =
+    let e : eqb (length (k ∷ ks)) 0 ≡ false = ne-eqb (length (k ∷ ks)) 0 (λ z. omega arith) in
+    let l : length (padded (k ∷ ks)) ≡ 64 = length-padded (k ∷ ks) (omega arith) in
+    rw (e, length-append, l) (omega arith)
+
+-- and one block more than those before the final one is the number of blocks of RFC 7693
+pub blocks : (kk ll : ℕ) → kk ≤ 32 → blockCount kk ll ≡ suc (earlier (cond (eqb kk 0) ll (ll + 64)))
+unfolding blockCount earlier
+blocks kk ll h = go (eqb kk 0) (eqb (kk + ll) 0) refl refl
+  where
+    go : (x y : Bool) → eqb kk 0 ≡ x → eqb (kk + ll) 0 ≡ y → cond y 1 ((kk + 63) / 64 + (ll + 63) / 64) ≡ suc ((cond x ll (ll + 64) - 1) / 64)
+    go true true p q = let a = eqb-true kk 0 p in let b = eqb-true (kk + ll) 0 q in omega arith
+    go true false p q = let a = eqb-true kk 0 p in omega (arith, eqb-false (kk + ll) 0 q)
+    go false true p q = absurd (omega (arith, eqb-false kk 0 p, eqb-true (kk + ll) 0 q))
+    go false false p q = omega (arith, eqb-false kk 0 p)
+
+-- the calls of F for a key and a message, by the number of blocks before the final one
+pub calls : (key msg : List ℕ) → length key ≤ 32
+    → compressions key msg
+    ≡ leading (earlier (length (input key msg))) 0 (input key msg) ++
+    record { block = blockAt (input key msg) (earlier (length (input key msg))); counter = length (input key msg); last = true } ∷ []
+unfolding compressions
+calls key msg h =
+    let l = length-input key msg h in
+    let b : blockCount (length key) (length msg) - 1 ≡ earlier (length (input key msg)) = rw (blocks (length key) (length msg) h, ← l) (omega arith) in
+    rw (b, ← l)
+
+module _ (key msg : List ℕ) (nn : ℕ) (fits : length key ≤ 32) where
+  begun-long : length (begun key nn .block) ≡ 64
+  unfolding begun
+  begun-long = length-padded key (omega arith)
+
+  -- the key's block and the message together
+  begun-sum : total (begun key nn) + length msg ≡ length (input key msg)
+  begun-sum = rw (begun-total key nn, length-input key msg fits) (go (eqb (length key) 0))
+    where
+      go : (b : Bool) → cond b 0 64 + length msg ≡ cond b (length msg) (length msg + 64)
+      go true = zero-add (length msg)
+      go false = omega arith
+
+  pub stream-size : extended (begun key nn) msg .size ≡ nn
+  unfolding extended begun
+  stream-size = refl
+
+  stream-state : extended (begun key nn) msg .h ≡ after (earlier (length (input key msg))) (initial (length key) nn) 0 (input key msg)
+  unfolding extended begun
+  stream-state = rw (begun-done key nn, begun-waits key msg nn fits)
+
+  -- a message that comes as one part
+  pub streamed : closed (extended (begun key nn) msg) ≡ blake2s key msg nn
+  unfolding closed blake2s compressed
+  streamed =
+      let c = begun key nn in
+      let d = input key msg in
+      let n = earlier (length d) in
+      let j : waiting c ++ msg ≡ d = begun-waits key msg nn fits in
+      let w : waiting (extended c msg) ≡ drop (64 * n) d = rw j at (waiting-extended c begun-long msg) in
+      let t : total (extended c msg) ≡ length d = total-extended c begun-long msg ∙ begun-sum in
+      let b : padded (drop (64 * n) d) ≡ blockAt d n = sym (block-last d n (last-fits (length d) .1)) in
+      rw (w, t, b, calls key msg fits, foldl-snoc, stream-state, stream-size)

@@ -1,0 +1,30 @@
+-- The work vector, written out as the code makes it, and a turn of the loop that writes a state's bytes.
+use mathlib.Core.Path.{_≡_, refl, subst}
+use mathlib.Core.Bool.{Bool, true, false, cond}
+use mathlib.Core.List.{List, [], _∷_, _++_}
+use Prim.Native.Nat.{ℕ, _+_, _*_, _/_, _%_, _^_, _<_}
+use lib.ListN.{length, getD, set, take, drop}
+use lib.Bits.{bitXor}
+use Rattle.blake2s.specs.Rfc7693.{each, iv, bytes, workVector}
+use Rattle.blake2s.proofs.Lists.{each-of, length-each, getD-each, copy-more}
+
+abbrev pub laidOut : List ℕ → ℕ → Bool → List ℕ
+laidOut h t f =
+    each 8 (λ i. getD h i 0) ++ getD iv 0 0 ∷ getD iv 1 0 ∷ getD iv 2 0 ∷ getD iv 3 0 ∷
+    bitXor (getD iv 4 0) (t % 2 ^ 32) ∷ bitXor (getD iv 5 0) (t / 2 ^ 32) ∷
+    cond f (bitXor (getD iv 6 0) 4294967295) (getD iv 6 0) ∷ getD iv 7 0 ∷ []
+
+pub laid-out : (h : List ℕ) (t : ℕ) (f : Bool) → length h ≡ 8 → laidOut h t f ≡ workVector h t f
+unfolding workVector iv
+laid-out h t f e = subst (λ (l : List ℕ). laidOut l t f ≡ workVector l t f) (each-of 8 h e) (go f)
+  where
+    go : (f : Bool) → laidOut (each 8 (λ i. getD h i 0)) t f ≡ workVector (each 8 (λ i. getD h i 0)) t f
+    go true = refl
+    go false = refl
+
+pub bytes-more : (h out : List ℕ) (i : ℕ) → i < length out → i < 32
+    → set (take i (bytes h) ++ drop i out) i (getD h (i / 4) 0 / 2 ^ (8 * (i % 4)) % 2 ^ 8) ≡ take (i + 1) (bytes h) ++ drop (i + 1) out
+unfolding bytes
+bytes-more h out i ho hi =
+    let l : i < length (bytes h) = rw length-each hi in
+    rw (← getD-each 32 (λ i. getD h (i / 4) 0 / 2 ^ (8 * (i % 4)) % 2 ^ 8) 0 i hi) (copy-more out (bytes h) i ho l)

@@ -1,0 +1,94 @@
+-- The law `extended-long`, with what the calls ensure.
+use mathlib.Core.Path.{_≡_, refl, sym}
+use Prim.Native.Nat.{_-_, _*_, _<_}
+use native.Mathlib.Omega.{arith}
+use lib.ListN.{length, drop, length-take, length-drop}
+use lib.Seq.{length-take-le}
+use Rattle.blake2s.specs.Stream.{earlier}
+use Rattle.blake2s.proofs.Lists.{drop-whole}
+use Rattle.blake2s.proofs.Contexts.{total-bound, extended-long}
+use lib.ListN.{length, take, drop, length-take}
+use Rattle.blake2s.proofs.Contexts.{extended-long}
+use borrow.Author.Needs.{needs}
+use Rattle.blake2s.proofs.stream.extended_long.Statement.{statement}
+use Rattle.blake2s.proofs.stream.extended_long.Tie as tie
+
+-- an array's length is a fact of its type
+block-length : (z : tie.Start) → length (z .args .c .block) ≡ 64
+block-length z = search (needs, z .good .0)
+
+slice-aggregate-append : tie.Need-slice-aggregate-append
+slice-aggregate-append c =
+    let f = c .before .before in
+    sym (length-take-le (64 - f .fill .result) (f .before .before .before .args .s .now) (omega arith))
+
+append-requires : tie.Need-append-requires
+append-requires c κs = simp length-take (omega arith)
+
+add-t : tie.Need-add-t
+add-t c =
+    let b = c .before .before .before .before in
+    let o = total-bound (b .before .before .before .args .c) in
+    omega arith
+
+whole-blocks-requires : tie.Need-whole-blocks-requires
+whole-blocks-requires c κs =
+    let b = c .before .before .before in
+    let f = b .before .before .before .before in
+    let o = total-bound (f .before .before .before .args .c) in
+    simp (length-take, length-drop) (omega arith)
+
+returns : tie.Need-returns
+returns c =
+    let p = c .before in
+    let q = p .before .before in
+    let w = q .before in
+    let k = w .before .before in
+    let b = k .before .before in
+    let u = b .before in
+    let h = u .before .before in
+    let f = h .before in
+    let z = f .before .before .before in
+    let a = z .args in
+    let l = block-length z in
+    let room = 64 - f .fill .result in
+    let long : room < length (a .s .now) = omega arith in
+    let rest = drop room (a .s .now) in
+    rw (
+      p .pad .ensures,
+      w .whole-blocks .ensures,
+      k .compress .ensures,
+      u .append .ensures,
+      h .held .ensures,
+      b .bytes-in .ensures,
+      q .before-final .ensures .0,
+      drop-whole room (a .s .now),
+      drop-whole (64 * earlier (length rest)) rest,
+    )
+    (extended-long (a .c) l (a .s .now) (f .fill .result) room rest (f .fill .ensures .0) (f .fill .ensures .1) refl long refl)
+
+pub extended-long-spec : {M : Type 1} → statement M
+extended-long-spec =
+    tie.close
+    (tie.spec
+    (λ c κs. search needs)
+    (λ c. search needs)
+    (λ c κs. search needs)
+    slice-aggregate-append
+    append-requires
+    (λ c κs. search needs)
+    add-t
+    (λ c. search needs)
+    (λ c κs. search needs)
+    (λ c. search needs)
+    (λ c. search needs)
+    (λ c. search needs)
+    whole-blocks-requires
+    (λ c κs. search needs)
+    (λ c. search needs)
+    (λ c. search needs)
+    (λ c. search needs)
+    (λ c κs. search needs)
+    (λ c. search needs)
+    (λ c. search needs)
+    returns)

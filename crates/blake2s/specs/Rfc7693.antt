@@ -1,0 +1,180 @@
+-- BLAKE2s after RFC 7693, in the RFC's order. An array is a list, a word a number below 2^32 and a byte one below 2^8.
+use Prim.Native.Nat.{ℕ, zero, suc, _+_, _-_, _*_, _/_, _%_, _^_}
+use mathlib.Core.Bool.{Bool, true, false, cond}
+use mathlib.Core.List.{List, [], _∷_, _++_, foldl}
+use lib.Dec.{eqb}
+use lib.ListN.{length, getD, set, take, drop, replicate}
+use lib.Bits.{bitXor}
+
+-- the array f(0), f(1), .., f(n - 1)
+abbrev pub each : {A : Type 0} → ℕ → (ℕ → A) → List A
+each zero f = []
+each (suc n) f = f 0 ∷ each n (λ i. f (suc i))
+
+-- 2.1: BLAKE2s has words of w bits, blocks of bb bytes and the rotations R1 to R4
+abbrev pub w : ℕ
+w = 32
+
+abbrev pub bb : ℕ
+bb = 64
+
+abbrev pub R1 : ℕ
+R1 = 16
+
+abbrev pub R2 : ℕ
+R2 = 12
+
+abbrev pub R3 : ℕ
+R3 = 8
+
+abbrev pub R4 : ℕ
+R4 = 7
+
+-- 2.3: ceil(n / bb)
+abbrev pub ceil : ℕ → ℕ
+ceil n = (n + (bb - 1)) / bb
+
+-- 2.3: x >> n
+abbrev pub shr : ℕ → ℕ → ℕ
+shr x n = x / 2 ^ n
+
+-- 2.3: x << n
+abbrev pub shl : ℕ → ℕ → ℕ
+shl x n = x * 2 ^ n % 2 ^ w
+
+-- 2.3: x >>> n
+unfoldable pub rotr : ℕ → ℕ → ℕ
+rotr x n = bitXor (shr x n) (shl x (w - n))
+
+-- 2.4: the word that four bytes from place i on give, lowest first
+unfoldable pub word : List ℕ → ℕ → ℕ
+word b i = getD b i 0 + getD b (i + 1) 0 * 2 ^ 8 + getD b (i + 2) 0 * 2 ^ 16 + getD b (i + 3) 0 * 2 ^ 24
+
+-- 2.4: the sixteen words of a block
+unfoldable pub words : List ℕ → List ℕ
+words b = each 16 (λ i. word b (4 * i))
+
+-- 2.4: the bytes of the eight words of a state, lowest first
+unfoldable pub bytes : List ℕ → List ℕ
+bytes h = each 32 (λ i. getD h (i / 4) 0 / 2 ^ (8 * (i % 4)) % 2 ^ 8)
+
+-- 2.6: the initialization vector
+unfoldable pub iv : List ℕ
+iv =
+    0x6a09e667 ∷ 0xbb67ae85 ∷ 0x3c6ef372 ∷ 0xa54ff53a ∷
+    0x510e527f ∷ 0x9b05688c ∷ 0x1f83d9ab ∷ 0x5be0cd19 ∷ []
+
+-- 2.7: the message word permutations
+unfoldable pub sigma : List (List ℕ)
+sigma =
+    (0 ∷ 1 ∷ 2 ∷ 3 ∷ 4 ∷ 5 ∷ 6 ∷ 7 ∷ 8 ∷ 9 ∷ 10 ∷ 11 ∷ 12 ∷ 13 ∷ 14 ∷ 15 ∷ []) ∷
+    (14 ∷ 10 ∷ 4 ∷ 8 ∷ 9 ∷ 15 ∷ 13 ∷ 6 ∷ 1 ∷ 12 ∷ 0 ∷ 2 ∷ 11 ∷ 7 ∷ 5 ∷ 3 ∷ []) ∷
+    (11 ∷ 8 ∷ 12 ∷ 0 ∷ 5 ∷ 2 ∷ 15 ∷ 13 ∷ 10 ∷ 14 ∷ 3 ∷ 6 ∷ 7 ∷ 1 ∷ 9 ∷ 4 ∷ []) ∷
+    (7 ∷ 9 ∷ 3 ∷ 1 ∷ 13 ∷ 12 ∷ 11 ∷ 14 ∷ 2 ∷ 6 ∷ 5 ∷ 10 ∷ 4 ∷ 0 ∷ 15 ∷ 8 ∷ []) ∷
+    (9 ∷ 0 ∷ 5 ∷ 7 ∷ 2 ∷ 4 ∷ 10 ∷ 15 ∷ 14 ∷ 1 ∷ 11 ∷ 12 ∷ 6 ∷ 8 ∷ 3 ∷ 13 ∷ []) ∷
+    (2 ∷ 12 ∷ 6 ∷ 10 ∷ 0 ∷ 11 ∷ 8 ∷ 3 ∷ 4 ∷ 13 ∷ 7 ∷ 5 ∷ 15 ∷ 14 ∷ 1 ∷ 9 ∷ []) ∷
+    (12 ∷ 5 ∷ 1 ∷ 15 ∷ 14 ∷ 13 ∷ 4 ∷ 10 ∷ 0 ∷ 7 ∷ 6 ∷ 3 ∷ 9 ∷ 2 ∷ 8 ∷ 11 ∷ []) ∷
+    (13 ∷ 11 ∷ 7 ∷ 14 ∷ 12 ∷ 1 ∷ 3 ∷ 9 ∷ 5 ∷ 0 ∷ 15 ∷ 4 ∷ 8 ∷ 6 ∷ 2 ∷ 10 ∷ []) ∷
+    (6 ∷ 15 ∷ 14 ∷ 9 ∷ 11 ∷ 3 ∷ 0 ∷ 8 ∷ 12 ∷ 2 ∷ 13 ∷ 7 ∷ 1 ∷ 4 ∷ 10 ∷ 5 ∷ []) ∷
+    (10 ∷ 2 ∷ 8 ∷ 4 ∷ 7 ∷ 6 ∷ 1 ∷ 5 ∷ 15 ∷ 11 ∷ 9 ∷ 14 ∷ 3 ∷ 12 ∷ 13 ∷ 0 ∷ []) ∷ []
+
+-- 3.1: v[a] := (v[a] + v[b] + x) mod 2**w
+unfoldable pub added : List ℕ → ℕ → ℕ → ℕ → List ℕ
+added v a b x = set v a ((getD v a 0 + getD v b 0 + x) % 2 ^ w)
+
+-- 3.1: v[d] := (v[d] ^ v[a]) >>> r
+unfoldable pub turned : List ℕ → ℕ → ℕ → ℕ → List ℕ
+turned v d a r = set v d (rotr (bitXor (getD v d 0) (getD v a 0)) r)
+
+-- 3.1: the mixing function G
+unfoldable pub G : List ℕ → ℕ → ℕ → ℕ → ℕ → ℕ → ℕ → List ℕ
+G v a b c d x y =
+    let v1 = added v a b x in
+    let v2 = turned v1 d a R1 in
+    let v3 = added v2 c d 0 in
+    let v4 = turned v3 b c R2 in
+    let v5 = added v4 a b y in
+    let v6 = turned v5 d a R3 in
+    let v7 = added v6 c d 0 in
+    turned v7 b c R4
+
+-- 3.2: the local work vector of the state h, the offset counter t and the flag f of the last block
+unfoldable pub workVector : List ℕ → ℕ → Bool → List ℕ
+workVector h t f =
+    let v0 = h ++ iv in
+    let v1 = set v0 12 (bitXor (getD v0 12 0) (t % 2 ^ w)) in
+    let v2 = set v1 13 (bitXor (getD v1 13 0) (shr t w)) in
+    cond f (set v2 14 (bitXor (getD v2 14 0) (2 ^ w - 1))) v2
+
+-- 3.2: m[s[j]]
+abbrev pub selected : List ℕ → List ℕ → ℕ → ℕ
+selected m s j = getD m (getD s j 0) 0
+
+-- 3.2: a round, with the message words m in the order s
+unfoldable pub round : List ℕ → List ℕ → List ℕ → List ℕ
+round m s v =
+    let v1 = G v 0 4 8 12 (selected m s 0) (selected m s 1) in
+    let v2 = G v1 1 5 9 13 (selected m s 2) (selected m s 3) in
+    let v3 = G v2 2 6 10 14 (selected m s 4) (selected m s 5) in
+    let v4 = G v3 3 7 11 15 (selected m s 6) (selected m s 7) in
+    let v5 = G v4 0 5 10 15 (selected m s 8) (selected m s 9) in
+    let v6 = G v5 1 6 11 12 (selected m s 10) (selected m s 11) in
+    let v7 = G v6 2 7 8 13 (selected m s 12) (selected m s 13) in
+    G v7 3 4 9 14 (selected m s 14) (selected m s 15)
+
+-- 3.2: a round for each order; BLAKE2s has r = 10 rounds, as many as there are orders
+unfoldable pub rounds : List ℕ → List (List ℕ) → List ℕ → List ℕ
+rounds m ss v = foldl (λ u s. round m s u) v ss
+
+-- 3.2: the compression function F
+unfoldable pub F : List ℕ → List ℕ → ℕ → Bool → List ℕ
+F h m t f =
+    let v = rounds m sigma (workVector h t f) in
+    each 8 (λ i. bitXor (bitXor (getD h i 0) (getD v i 0)) (getD v (i + 8) 0))
+
+-- 3.3: x filled up with zeros to a block
+unfoldable pub padded : List ℕ → List ℕ
+padded x = x ++ replicate (bb - length x) 0
+
+-- 3.3: the input: a key, padded, is a block of its own in front of the message
+unfoldable pub input : List ℕ → List ℕ → List ℕ
+input [] msg = msg
+input (k ∷ ks) msg = padded (k ∷ ks) ++ msg
+
+-- 3.3: block d[i] of the input d; the final one is padded
+unfoldable pub blockAt : List ℕ → ℕ → List ℕ
+blockAt d i = padded (take bb (drop (bb * i) d))
+
+-- 3.3: the number dd of blocks, for a key of kk and a message of ll bytes
+unfoldable pub blockCount : ℕ → ℕ → ℕ
+blockCount kk ll = cond (eqb (kk + ll) 0) 1 (ceil kk + ceil ll)
+
+-- 3.3: a call of F: its block, its counter and whether it is the last
+pub record Compression : Type 0 where
+  pub block : List ℕ
+  pub counter : ℕ
+  pub last : Bool
+
+-- 3.3: the calls for d[0] to d[n - 1], none of them final, where t bytes came before d
+unfoldable pub leading : ℕ → ℕ → List ℕ → List Compression
+leading n t d = each n (λ i. record { block = blockAt d i; counter = t + (i + 1) * bb; last = false })
+
+-- 3.3: all calls of F for a key and a message
+unfoldable pub compressions : List ℕ → List ℕ → List Compression
+compressions key msg =
+    let d = input key msg in
+    let dd = blockCount (length key) (length msg) in
+    let ll = cond (eqb (length key) 0) (length msg) (length msg + bb) in
+    leading (dd - 1) 0 d ++ record { block = blockAt d (dd - 1); counter = ll; last = true } ∷ []
+
+-- 3.3: the state after some calls of F
+unfoldable pub compressed : List ℕ → List Compression → List ℕ
+compressed h cs = foldl (λ g c. F g (words (c .block)) (c .counter) (c .last)) h cs
+
+-- 3.3: the first state, with the parameter block of 2.5, for a key of kk bytes and a hash of nn
+unfoldable pub initial : ℕ → ℕ → List ℕ
+initial kk nn = set iv 0 (bitXor (bitXor (bitXor (getD iv 0 0) 0x01010000) (shl kk 8)) nn)
+
+-- 3.3: BLAKE2s with a key of up to 32 bytes, empty for none, and a hash of nn bytes, 1 to 32
+unfoldable pub blake2s : List ℕ → List ℕ → ℕ → List ℕ
+blake2s key msg nn = take nn (bytes (compressed (initial (length key) nn) (compressions key msg)))

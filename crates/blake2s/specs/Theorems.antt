@@ -1,0 +1,75 @@
+-- What is proved about hashing besides the promises. The proofs are `hashing` and `streaming` in proofs/Proved.antt.
+use Prim.Native.Nat.{ℕ, zero, suc, _+_, _*_, _^_, _<_, _≤_}
+use mathlib.Core.Path.{_≡_}
+use mathlib.Core.Bool.{Bool, true, false, cond}
+use mathlib.Core.List.{List, [], _∷_, _++_}
+use mathlib.Core.Logic.{_↔_}
+use lib.Dec.{eqb}
+use lib.ListN.{length, getD, drop}
+use lib.Bits.{bitXor}
+use Rattle.blake2s.specs.Rfc7693.{bb, ceil, iv, sigma, workVector, Compression, leading, compressions, blake2s}
+use Rattle.blake2s.specs.Hash.{numberOf, kept, hashNumber, hashOutput}
+use Rattle.blake2s.specs.Stream.{inRange, beginNumber, beginContext, updateNumber, updateContext, finishNumber, finishOutput}
+use Rattle.blake2s.specs.declared.Answer.{Answer}
+use Rattle.blake2s.specs.declared.Context.{Context}
+
+-- how often k stands in a list
+unfoldable pub times : ℕ → List ℕ → ℕ
+times k [] = 0
+times k (x ∷ xs) = cond (eqb k x) 1 0 + times k xs
+
+pub record Hashing : Type 0 where
+  -- RFC 7693, 2.7: there are ten orders, each a permutation of the sixteen places
+  pub orders : length sigma ≡ 10
+  pub permutation : (r : ℕ) → r < 10 → (length (getD sigma r []) ≡ 16) × ((k : ℕ) → k < 16 → times k (getD sigma r []) ≡ 1)
+  -- document 01, "Hashing": the number of compressions
+  pub empty : length (compressions [] []) ≡ 1
+  pub unkeyed : (msg : List ℕ) → 0 < length msg → length (compressions [] msg) ≡ ceil (length msg)
+  pub keyed : (key msg : List ℕ) → 0 < length key → length key ≤ 32 → length (compressions key msg) ≡ 1 + ceil (length msg)
+  -- a full block at the end of the message is the final one
+  pub full : (msg : List ℕ) (k : ℕ) → length msg ≡ bb * suc k
+      → compressions [] msg ≡ leading k 0 msg ++ record { block = drop (bb * k) msg; counter = length msg; last = true } ∷ []
+  -- the longest message with a key: the counter passes 2^32, and its high word is 1
+  pub past : (key msg : List ℕ) → 0 < length key → length key ≤ 32 → length msg ≡ 4294967295
+      → (z : Compression) (i : ℕ) → suc i ≡ length (compressions key msg) → getD (compressions key msg) i z .counter ≡ 2 ^ 32 + 63
+  pub high : (h : List ℕ) (f : Bool) → length h ≡ 8
+      → (getD (workVector h (2 ^ 32 + 63) f) 12 0 ≡ bitXor (getD iv 4 0) 63) × (getD (workVector h (2 ^ 32 + 63) f) 13 0 ≡ bitXor (getD iv 5 0) 1)
+  -- an answer is settled by its number
+  pub number : (x y : Answer) → numberOf x ≡ numberOf y → x ≡ y
+
+-- calls of update, one for each part, each on the context that the one before handed back: the last context,
+unfoldable pub run : Context → List (List ℕ) → Context
+run c [] = c
+run c (s ∷ ss) = run (updateContext c s) ss
+
+-- the numbers answered
+unfoldable pub numbers : Context → List (List ℕ) → List ℕ
+numbers c [] = []
+numbers c (s ∷ ss) = updateNumber c (length s) ∷ numbers (updateContext c s) ss
+
+-- and the accepted parts, joined
+unfoldable pub joined : Context → List (List ℕ) → List ℕ
+joined c [] = []
+joined c (s ∷ ss) = kept (updateNumber c (length s)) s [] ++ joined (updateContext c s) ss
+
+-- after an accepted begin and any updates, refused ones included
+pub record Streamed (key : List ℕ) (nn : ℕ) (parts : List (List ℕ)) : Type 0 where
+  -- the context is in range, and no call has answered 1 or will
+  pub range : inRange (run (beginContext key nn) parts) ≡ true
+  pub updates : (i : ℕ) → getD (numbers (beginContext key nn) parts) i 0 ≡ 1 → ⊥
+  pub finishes : (n : ℕ) → finishNumber (run (beginContext key nn) parts) n ≡ 1 → ⊥
+  -- finish gives what one call gives for the accepted parts joined
+  pub accepted : (finishNumber (run (beginContext key nn) parts) nn ≡ 0) × (hashNumber (length key) (length (joined (beginContext key nn) parts)) nn ≡ 0)
+  pub same : (out : List ℕ) → length out ≡ nn
+      → finishOutput (run (beginContext key nn) parts) out ≡ hashOutput key (joined (beginContext key nn) parts) out
+
+pub record Streaming : Type 0 where
+  pub streamed : (key : List ℕ) (nn : ℕ) (parts : List (List ℕ)) → beginNumber (length key) nn ≡ 0 → Streamed key nn parts
+  -- two parts are as one part of both; a context's block is an array of 64 bytes
+  pub both : (c : Context) (s e : List ℕ) → length (c .block) ≡ 64
+      → ((updateNumber c (length s) ≡ 0) × (updateNumber (updateContext c s) (length e) ≡ 0)) ↔ (updateNumber c (length (s ++ e)) ≡ 0)
+  pub composed : (c : Context) (s e : List ℕ) → length (c .block) ≡ 64 → updateNumber c (length (s ++ e)) ≡ 0
+      → updateContext (updateContext c s) e ≡ updateContext c (s ++ e)
+  -- what a refused begin hands back is refused by every later call with 1
+  pub refused : (key : List ℕ) (nn : ℕ) → (beginNumber (length key) nn ≡ 0 → ⊥)
+      → (n : ℕ) → (updateNumber (beginContext key nn) n ≡ 1) × (finishNumber (beginContext key nn) n ≡ 1)

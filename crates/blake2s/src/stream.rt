@@ -1,0 +1,221 @@
+// RFC 7693, section 3.3, on a context. A block is compressed once a byte has come that stands behind it, so a full one waits.
+use super::Context;
+use super::compression::IV;
+use super::compression::compress;
+ghost use mathlib.Core.Path.{_≡_};
+ghost use Prim.Native.Nat.{_+_, _*_, _/_, _%_, _^_, _<_, _≤_};
+ghost use mathlib.Core.Bool.{true};
+ghost use mathlib.Core.List.{_++_};
+ghost use lib.Seq.{paste};
+ghost use lib.ListN.{getD, length, take, drop};
+ghost use Rattle.blake2s.specs.Rfc7693.{bytes, padded, leading, compressed, initial};
+ghost use Rattle.blake2s.specs.Stream.{earlier, total, done, waiting, begun, extended, closed, inRange};
+
+pub fn in_range(c: Context) -> bool
+    ensures { λ r. ⌜ r ≡ inRange c ⌝ }
+{
+    if c.size == 0 {
+        return false;
+    }
+    c.size <= 32
+}
+
+// The first state, with the lengths of the key and of the hash in it.
+fn first_state(kk: usize, nn: usize) -> [u32; 8]
+    requires { ⌜ (kk ≤ 32) × (nn ≤ 32) ⌝ }
+    ensures { λ r. ⌜ r ≡ initial kk nn ⌝ }
+{
+    let k = kk as u32;
+    [
+        IV[0] ^ 0x01010000 ^ (k << 8) ^ (nn as u32),
+        IV[1],
+        IV[2],
+        IV[3],
+        IV[4],
+        IV[5],
+        IV[6],
+        IV[7],
+    ]
+}
+
+// A block: s, filled up with zeros.
+fn pad(s: &[u8]) -> [u8; 64]
+    requires { ⌜ length (now s) ≤ 64 ⌝ }
+    ensures { λ r. ⌜ r ≡ padded (now (s .entry)) ⌝ }
+{
+    let mut b = [0u8; 64];
+    let mut i: usize = 0;
+    while i < s.len() {
+        b[i] = s[i];
+        i = i + 1;
+    }
+    b
+}
+
+// b with the bytes s from a place on.
+fn append(b: [u8; 64], at: usize, s: &[u8]) -> [u8; 64]
+    requires { ⌜ at + length (now s) ≤ 64 ⌝ }
+    ensures { λ r. ⌜ r ≡ paste b at (now (s .entry)) (length (now (s .entry))) ⌝ }
+{
+    let mut w = b;
+    let mut i: usize = 0;
+    while i < s.len() {
+        w[at + i] = s[i];
+        i = i + 1;
+    }
+    w
+}
+
+// How many of n bytes stand in blocks before the final one.
+fn before_final(n: u64) -> u64
+    ensures { λ r. ⌜ (r ≡ 64 * earlier n) × (r ≤ n) × (n ≤ r + 64) ⌝ }
+{
+    if n == 0 { 0 } else { 64 * ((n - 1) / 64) }
+}
+
+// How many bytes have come, the key's block among them.
+fn bytes_in(c: Context) -> u64
+    ensures { λ r. ⌜ r ≡ total c ⌝ }
+{
+    let n = c.message as u64;
+    if c.keyed { 64 + n } else { n }
+}
+
+// How many bytes wait in the block.
+fn fill(c: Context) -> usize
+    ensures { λ r. ⌜ (done c + r ≡ total c) × (r ≤ 64) ⌝ }
+{
+    let n = bytes_in(c);
+    (n - before_final(n)) as usize
+}
+
+// The block that waits, filled up with zeros.
+fn held(c: Context) -> [u8; 64]
+    ensures { λ r. ⌜ r ≡ padded (waiting c) ⌝ }
+{
+    let block = c.block;
+    let n = fill(c);
+    pad(&block[..n])
+}
+
+// The state after all blocks of d but the last, where t bytes came before.
+fn whole_blocks(h: [u32; 8], t: u64, d: &[u8]) -> [u32; 8]
+    requires { ⌜ t + length (now d) < 2 ^ 63 ⌝ }
+    ensures { λ r. ⌜ r ≡ compressed h (leading (earlier (length (now (d .entry)))) t (now (d .entry))) ⌝ }
+{
+    let n = d.len();
+    let mut s = h;
+    let mut at: usize = 0;
+    while 64 < n - at {
+        let end = at + 64;
+        let next = compress(s, &d[at..end], t + (end as u64), false);
+        s = next;
+        at = end;
+    }
+    s
+}
+
+// A hash with a key and without a message yet.
+pub fn begun(key: &[u8], size: usize) -> Context
+    requires { ⌜ (length (now key) ≤ 32) × (size ≤ 32) ⌝ }
+    ensures { λ r. ⌜ r ≡ begun (now (key .entry)) size ⌝ }
+{
+    Context {
+        h: first_state(key.len(), size),
+        block: pad(key),
+        message: 0,
+        keyed: key.len() != 0,
+        size: size,
+    }
+}
+
+// A part for which the block that waits has room.
+fn extended_short(c: Context, s: &[u8]) -> Context
+    requires { ⌜ (total c + length (now s) ≤ done c + 64) × (c .message + length (now s) < 2 ^ 32) ⌝ }
+    ensures { λ r. ⌜ r ≡ extended c (now (s .entry)) ⌝ }
+{
+    let h = c.h;
+    let n = fill(c);
+    let block = append(held(c), n, s);
+    Context {
+        h: h,
+        block: block,
+        message: c.message + (s.len() as u32),
+        keyed: c.keyed,
+        size: c.size,
+    }
+}
+
+// A longer part.
+fn extended_long(c: Context, s: &[u8]) -> Context
+    requires { ⌜ (done c + 64 < total c + length (now s)) × (c .message + length (now s) < 2 ^ 32) ⌝ }
+    ensures { λ r. ⌜ r ≡ extended c (now (s .entry)) ⌝ }
+{
+    let h = c.h;
+    let n = fill(c);
+    let room = 64 - n;
+    let block = append(held(c), n, &s[..room]);
+    let t = bytes_in(c) + (room as u64);
+    let next = compress(h, &block, t, false);
+    let rest = &s[room..];
+    let end = whole_blocks(next, t, rest);
+    let from = before_final(rest.len() as u64) as usize;
+    Context {
+        h: end,
+        block: pad(&rest[from..]),
+        message: c.message + (s.len() as u32),
+        keyed: c.keyed,
+        size: c.size,
+    }
+}
+
+// The context after the next part of the message.
+pub fn extended(c: Context, s: &[u8]) -> Context
+    requires { ⌜ c .message + length (now s) < 2 ^ 32 ⌝ }
+    ensures { λ r. ⌜ r ≡ extended c (now (s .entry)) ⌝ }
+{
+    if s.len() <= 64 - fill(c) {
+        extended_short(c, s)
+    } else {
+        extended_long(c, s)
+    }
+}
+
+// The byte of a word that starts at bit k.
+fn byte_of(w: u32, k: u32) -> u8
+    requires { ⌜ k ≤ 24 ⌝ }
+    ensures { λ r. ⌜ r ≡ w / 2 ^ k % 2 ^ 8 ⌝ }
+{
+    ((w >> k) % 256) as u8
+}
+
+// Byte i of a state.
+fn byte_at(h: &[u32; 8], i: usize) -> u8
+    requires { ⌜ i < 32 ⌝ }
+    ensures { λ r. ⌜ r ≡ getD (now (h .entry)) (i / 4) 0 / 2 ^ (8 * (i % 4)) % 2 ^ 8 ⌝ }
+{
+    byte_of(h[i / 4], (8 * (i % 4)) as u32)
+}
+
+// The first bytes of a state, as many as out has.
+fn write_bytes(h: &[u32; 8], out: &mut [u8])
+    requires { ⌜ length (now out) ≤ 32 ⌝ }
+    ensures { λ _. ⌜ now (out .exit) ≡ take (length (now (out .entry))) (bytes (now (h .entry))) ⌝ }
+{
+    let mut i: usize = 0;
+    while i < out.len() {
+        out[i] = byte_at(h, i);
+        i = i + 1;
+    }
+}
+
+// The hash: what waits is the final block.
+pub fn closed(c: Context, out: &mut [u8])
+    requires { ⌜ (length (now out) ≡ c .size) × (c .size ≤ 32) ⌝ }
+    ensures { λ _. ⌜ now (out .exit) ≡ closed c ⌝ }
+{
+    let h = c.h;
+    let last = held(c);
+    let end = compress(h, &last, bytes_in(c), true);
+    write_bytes(&end, out);
+}

@@ -1,0 +1,81 @@
+// The header byte of a frame (TKey Framing Protocol), read and written.
+// Document 01, "Header byte", in the terms of specs/Header.antt.
+ghost use mathlib.Core.Path.{_≡_};
+ghost use Prim.Native.Nat.{_<_};
+ghost use Rattle.framing.specs.Header.{headerAt, headerByte, lengthOf, codeOf};
+ghost use Rattle.framing.specs.Answers.{readingOf, writingOf};
+
+// What a header byte says.
+pub enum Header {
+    // Bits 7 and 2 are zero: the frame's ID, its endpoint, and how many bytes its body has.
+    Good { id: u8, endpoint: u8, len: u8 },
+    // Bit 7 or bit 2 is set.
+    Bad,
+}
+
+// What the writer answers.
+pub enum Written {
+    Byte(u8),
+    // The ID or the endpoint is over 3, or no header has that length.
+    Refused,
+}
+
+// The body's length that a length code stands for.
+fn body_length(code: u8) -> u8
+    requires { ⌜ code < 4 ⌝ }
+    ensures { λ r. ⌜ r ≡ lengthOf code ⌝ }
+{
+    match code {
+        0 => 1,
+        1 => 4,
+        2 => 32,
+        _ => 128,
+    }
+}
+
+// The length code of a body's length: 4, which no header can hold, where there is none.
+fn length_code(len: usize) -> u8
+    ensures { λ r. ⌜ r ≡ codeOf len ⌝ }
+{
+    match len {
+        1 => 0,
+        4 => 1,
+        32 => 2,
+        128 => 3,
+        _ => 4,
+    }
+}
+
+// Reads a header byte.
+pub fn read_header(b: u8) -> Header
+    ensures { λ r. ⌜ readingOf r ≡ headerAt b ⌝ }
+{
+    if b / 128 % 2 != 0 {
+        return Header::Bad;
+    }
+    if b / 4 % 2 != 0 {
+        return Header::Bad;
+    }
+    Header::Good {
+        id: b / 32 % 4,
+        endpoint: b / 8 % 4,
+        len: body_length(b % 4),
+    }
+}
+
+// Makes a header byte, with bits 7 and 2 zero.
+pub fn write_header(id: u8, endpoint: u8, len: usize) -> Written
+    ensures { λ r. ⌜ writingOf r ≡ headerByte id endpoint len ⌝ }
+{
+    let code = length_code(len);
+    if 3 < id {
+        return Written::Refused;
+    }
+    if 3 < endpoint {
+        return Written::Refused;
+    }
+    if 3 < code {
+        return Written::Refused;
+    }
+    Written::Byte(id * 32 + endpoint * 8 + code)
+}
