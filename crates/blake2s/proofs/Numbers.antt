@@ -1,10 +1,10 @@
 -- The number of a call by the lengths that it is given.
 use mathlib.Core.Path.{_≡_, refl}
-use mathlib.Core.Bool.{Bool, true, false, _&&_}
+use mathlib.Core.Bool.{Bool, true, false, cond, _&&_}
 use Prim.Native.Nat.{ℕ, _+_, _<_, _≤_}
 use native.Mathlib.Omega.{arith}
-use lib.Dec.{ltb, leb}
-use borrow.Author.Tests.{eq-eqb, ne-eqb, lt-ltb, le-ltb, ltb-true, leb-true, le-leb}
+use lib.Dec.{ltb, leb, eqb}
+use borrow.Author.Tests.{eq-eqb, ne-eqb, lt-ltb, le-ltb, ltb-true, ltb-false, leb-true, le-leb}
 use Rattle.blake2s.specs.Hash.{badSize, tooLong, hashNumber}
 use Rattle.blake2s.specs.Stream.{beginNumber, inRange, updateNumber, finishNumber}
 use Rattle.blake2s.specs.declared.Context.{Context}
@@ -98,3 +98,22 @@ module _ (c : Context) where
       pub finish-accepted : n ≡ c .size → finishNumber c n ≡ 0
       unfolding finishNumber
       finish-accepted h = rw (e, eq-eqb n (c .size) h)
+
+    -- an update is accepted only as the definition says, and no finish of a context in range answers 1
+    pub update-zero : updateNumber c n ≡ 0 → (inRange c ≡ true) × (c .message + n ≤ 4294967295)
+    unfolding updateNumber
+    update-zero e = go (inRange c) (ltb 4294967295 (c .message + n)) refl refl e
+      where
+        go : (x y : Bool) → inRange c ≡ x → ltb 4294967295 (c .message + n) ≡ y → _≡_ {A = ℕ} (cond x (cond y 10 0) 1) 0
+            → (inRange c ≡ true) × (c .message + n ≤ 4294967295)
+        go true false p q r = (p, ltb-false 4294967295 (c .message + n) q)
+        go true true p q r = absurd (omega arith)
+        go false y p q r = absurd (omega arith)
+
+    pub finish-not-one : inRange c ≡ true → finishNumber c n ≡ 1 → ⊥
+    unfolding finishNumber
+    finish-not-one e = rw e (go (eqb n (c .size)))
+      where
+        go : (b : Bool) → _≡_ {A = ℕ} (cond b 0 8) 1 → ⊥
+        go true r = omega arith
+        go false r = omega arith

@@ -44,7 +44,7 @@ begun-total key nn = go (eqb (length key) 0)
     go true = refl
     go false = refl
 
-begun-done : (key : List ℕ) (nn : ℕ) → done (begun key nn) ≡ 0
+pub begun-done : (key : List ℕ) (nn : ℕ) → done (begun key nn) ≡ 0
 unfolding done earlier
 begun-done key nn = rw (begun-total key nn) (go (eqb (length key) 0))
   where
@@ -52,7 +52,7 @@ begun-done key nn = rw (begun-total key nn) (go (eqb (length key) 0))
     go true = refl
     go false = refl
 
-begun-waits : (key msg : List ℕ) (nn : ℕ) → length key ≤ 32 → waiting (begun key nn) ++ msg ≡ input key msg
+pub begun-waits : (key msg : List ℕ) (nn : ℕ) → length key ≤ 32 → waiting (begun key nn) ++ msg ≡ input key msg
 unfolding waiting begun input
 begun-waits [] msg nn h = rw (begun-total [] nn, begun-done [] nn)
 begun-waits (k ∷ ks) msg nn h =
@@ -92,7 +92,7 @@ calls key msg h =
     rw (b, ← l)
 
 module _ (key msg : List ℕ) (nn : ℕ) (fits : length key ≤ 32) where
-  begun-long : length (begun key nn .block) ≡ 64
+  pub begun-long : length (begun key nn .block) ≡ 64
   unfolding begun
   begun-long = length-padded key (omega arith)
 

@@ -65,9 +65,10 @@ pub record Streamed (key : List ℕ) (nn : ℕ) (parts : List (List ℕ)) : Type
 
 pub record Streaming : Type 0 where
   pub streamed : (key : List ℕ) (nn : ℕ) (parts : List (List ℕ)) → beginNumber (length key) nn ≡ 0 → Streamed key nn parts
-  -- two parts are as one part of both; a context's block is an array of 64 bytes
-  pub both : (c : Context) (s e : List ℕ) → length (c .block) ≡ 64
+  -- two parts are as one part of both: they are accepted as it is,
+  pub both : (c : Context) (s e : List ℕ)
       → ((updateNumber c (length s) ≡ 0) × (updateNumber (updateContext c s) (length e) ≡ 0)) ↔ (updateNumber c (length (s ++ e)) ≡ 0)
+  -- and lead to the same context; a context's block is an array of 64 bytes
   pub composed : (c : Context) (s e : List ℕ) → length (c .block) ≡ 64 → updateNumber c (length (s ++ e)) ≡ 0
       → updateContext (updateContext c s) e ≡ updateContext c (s ++ e)
   -- what a refused begin hands back is refused by every later call with 1

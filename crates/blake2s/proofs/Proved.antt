@@ -1,0 +1,190 @@
+-- The theorems of specs/Theorems.antt.
+use mathlib.Core.Path.{_≡_, refl, ap, sym, _∙_}
+use mathlib.Core.Bool.{Bool, true, false, cond, _||_}
+use mathlib.Core.List.{List, [], _∷_, _++_}
+use mathlib.Core.Logic.{_↔_}
+use Prim.Native.Nat.{ℕ, zero, suc, _+_, _-_, _*_, _/_, _^_, _<_, _≤_}
+use native.Mathlib.Omega.{arith}
+use lib.Dec.{ltb, eqb}
+use lib.ListN.{length, getD, drop, length-append, length-drop}
+use lib.Seq.{getD-at, take-all}
+use borrow.Author.Tests.{ltb-false, eqb-false, ne-eqb}
+use Rattle.blake2s.specs.Rfc7693.{sigma, iv, workVector, input, blockAt, blockCount, Compression, leading, compressions, blake2s}
+use Rattle.blake2s.specs.Hash.{numberOf, hashNumber, hashOutput}
+use Rattle.blake2s.specs.Stream.{earlier, begun, extended, inRange, beginNumber, beginContext, updateNumber, updateContext, finishNumber, finishOutput, refusedContext}
+use Rattle.blake2s.specs.Theorems.{Hashing, Streamed, Streaming, run, numbers, joined}
+use Rattle.blake2s.specs.declared.Context.{Context}
+use Rattle.blake2s.specs.declared.Answer.{Answer}
+use Rattle.blake2s.specs.declared.Answer.the-variants.{Accepted, ContextRange, OutputLength, KeyLength, MessageLength}
+use Rattle.blake2s.proofs.Lists.{length-each}
+use Rattle.blake2s.proofs.Orders.{order-length, order-once}
+use Rattle.blake2s.proofs.Vectors.{laid-out}
+use Rattle.blake2s.proofs.Blocks.{block-full}
+use Rattle.blake2s.proofs.Numbers.{hash-accepted, update-zero, update-accepted, finish-accepted, finish-not-one}
+use Rattle.blake2s.proofs.Streams.{length-input, blocks, calls, in-parts, stream-size, streamed}
+use Rattle.blake2s.proofs.Sessions.{begun-nil, at-range, Run, runs}
+
+module _ (key msg : List ℕ) (fits : length key ≤ 32) where
+  leading-count : (n : ℕ) → length (leading n 0 (input key msg)) ≡ n
+  unfolding leading
+  leading-count n = length-each n _
+
+  -- as many calls as blocks
+  count : length (compressions key msg) ≡ blockCount (length key) (length msg)
+  count =
+      let l = length-input key msg fits in
+      let n = earlier (length (input key msg)) in
+      let e : length (leading n 0 (input key msg)) ≡ n = leading-count n in
+      rw (calls key msg fits, length-append, e, blocks (length key) (length msg) fits, ← l) (omega arith)
+
+  -- the last call's counter
+  last-counter : (z : Compression) (i : ℕ) → suc i ≡ length (compressions key msg) → getD (compressions key msg) i z .counter ≡ length (input key msg)
+  last-counter z i e =
+      let n = earlier (length (input key msg)) in
+      let k : length (leading n 0 (input key msg)) ≡ n = leading-count n in
+      let c : length (compressions key msg) ≡ suc n = rw (calls key msg fits, length-append, k) (omega arith) in
+      let j : length (leading n 0 (input key msg)) ≡ i = omega arith in
+      rw (calls key msg fits, getD-at (leading n 0 (input key msg)) _ [] z i j)
+
+unkeyed-count : (msg : List ℕ) → 0 < length msg → length (compressions [] msg) ≡ (length msg + 63) / 64
+unfolding blockCount
+unkeyed-count msg h = rw (count [] msg (omega arith), ne-eqb (0 + length msg) 0 (λ e. omega arith)) (omega arith)
+
+keyed-count : (key msg : List ℕ) → 0 < length key → length key ≤ 32 → length (compressions key msg) ≡ 1 + (length msg + 63) / 64
+unfolding blockCount
+keyed-count key msg p h = rw (count key msg h, ne-eqb (length key + length msg) 0 (λ e. omega arith)) (omega arith)
+
+full-last : (msg : List ℕ) (k : ℕ) → length msg ≡ 64 * suc k
+    → compressions [] msg ≡ leading k 0 msg ++ record { block = drop (64 * k) msg; counter = length msg; last = true } ∷ []
+unfolding input earlier
+full-last msg k e =
+    let n : earlier (length msg) ≡ k = omega arith in
+    let l : length (drop (64 * k) msg) ≡ length msg - 64 * k = length-drop (64 * k) msg in
+    let b : blockAt msg k ≡ drop (64 * k) msg = block-full msg k (omega arith) ∙ take-all 64 (drop (64 * k) msg) (omega arith) in
+    rw (calls [] msg (omega arith), n, b)
+
+-- the answer of a number
+answer : ℕ → Answer
+answer n = cond (eqb n 0) Accepted (cond (eqb n 1) ContextRange (cond (eqb n 8) OutputLength (cond (eqb n 9) KeyLength MessageLength)))
+
+answer-of : (x : Answer) → answer (numberOf x) ≡ x
+unfolding answer
+answer-of Accepted = refl
+answer-of ContextRange = refl
+answer-of OutputLength = refl
+answer-of KeyLength = refl
+answer-of MessageLength = refl
+
+same-number : (x y : Answer) → numberOf x ≡ numberOf y → x ≡ y
+same-number x y e = sym (answer-of x) ∙ ap answer e ∙ answer-of y
+
+pub hashing : Hashing
+unfolding sigma blockCount
+hashing = record {
+  orders = refl;
+  permutation = λ r h. (order-length r h, order-once r h);
+  empty = count [] [] (omega arith);
+  unkeyed = unkeyed-count;
+  keyed = keyed-count;
+  full = full-last;
+  past = λ key msg p h e z i j.
+      let l : length (input key msg) ≡ length msg + 64 = rw (length-input key msg h, ne-eqb (length key) 0 (λ o. omega arith)) in
+      last-counter key msg h z i j ∙ omega arith;
+  high = λ h f e. (rw (← laid-out h (2 ^ 32 + 63) f e), rw (← laid-out h (2 ^ 32 + 63) f e));
+  number = same-number;
+}
+
+-- what an accepted begin was given
+record Begun (key : List ℕ) (nn : ℕ) : Type 0 where
+  fits : length key ≤ 32
+  some : 0 < nn
+  small : nn ≤ 32
+
+accepted-begin : (key : List ℕ) (nn : ℕ) → beginNumber (length key) nn ≡ 0 → Begun key nn
+unfolding beginNumber
+accepted-begin key nn = go (eqb nn 0) (ltb 32 nn) (ltb 32 (length key)) refl refl refl
+  where
+    go : (x y z : Bool) → eqb nn 0 ≡ x → ltb 32 nn ≡ y → ltb 32 (length key) ≡ z → _≡_ {A = ℕ} (cond (x || y) 8 (cond z 9 0)) 0 → Begun key nn
+    go false false false p q r e = record { fits = ltb-false 32 (length key) r; some = omega (arith, eqb-false nn 0 p); small = ltb-false 32 nn q }
+    go false false true p q r e = absurd (omega arith)
+    go false true z p q r e = absurd (omega arith)
+    go true y z p q r e = absurd (omega arith)
+
+module _ (key : List ℕ) (nn : ℕ) (parts : List (List ℕ)) (accepted : beginNumber (length key) nn ≡ 0) where
+  begin-is : beginContext key nn ≡ extended (begun key nn) []
+  unfolding beginContext
+  begin-is = rw accepted (sym (begun-nil key nn (accepted-begin key nn accepted .fits)))
+
+  all-streamed : Streamed key nn parts
+  unfolding finishOutput hashOutput
+  all-streamed =
+      let b = accepted-begin key nn accepted in
+      let c = extended (begun key nn) [] in
+      let x = joined c parts in
+      let r = runs key nn (b .fits) (b .some) (b .small) parts [] (omega arith) in
+      let g = at-range key nn (b .fits) (b .some) (b .small) x in
+      let z = stream-size key x nn (b .fits) in
+      let f : finishNumber (extended (begun key nn) x) nn ≡ 0 = finish-accepted (extended (begun key nn) x) nn g (sym z) in
+      let k : hashNumber (length key) (length x) nn ≡ 0 = hash-accepted (length key) nn (length x) (b .some) (b .small) (b .fits) (r .short) in
+      record {
+        range = rw (begin-is, r .last) g;
+        updates = rw begin-is (r .quiet);
+        finishes = λ n. rw (begin-is, r .last) (finish-not-one (extended (begun key nn) x) n g);
+        accepted = (rw (begin-is, r .last) f, rw begin-is k);
+        same = λ out e. rw (begin-is, r .last, e, f, k) (streamed key x nn (b .fits));
+      }
+
+module _ (c : Context) (s : List ℕ) where
+  extended-range : inRange (extended c s) ≡ inRange c
+  unfolding inRange extended
+  extended-range = refl
+
+  extended-message : extended c s .message ≡ c .message + length s
+  unfolding extended
+  extended-message = refl
+
+  update-is : updateNumber c (length s) ≡ 0 → updateContext c s ≡ extended c s
+  unfolding updateContext
+  update-is e = rw e
+
+module _ (c : Context) (s e : List ℕ) where
+  both-to-one : (updateNumber c (length s) ≡ 0) × (updateNumber (updateContext c s) (length e) ≡ 0) → updateNumber c (length (s ++ e)) ≡ 0
+  both-to-one p =
+      let u = update-zero c (length s) (p .0) in
+      let v = update-zero (extended c s) (length e) (rw (update-is c s (p .0)) at (p .1)) in
+      let m = extended-message c s in
+      let l = length-append s e in
+      update-accepted c (length (s ++ e)) (u .0) (omega arith)
+
+  first-accepted : updateNumber c (length (s ++ e)) ≡ 0 → updateNumber c (length s) ≡ 0
+  first-accepted p =
+      let u = update-zero c (length (s ++ e)) p in
+      let l = length-append s e in
+      update-accepted c (length s) (u .0) (omega arith)
+
+  second-accepted : updateNumber c (length (s ++ e)) ≡ 0 → updateNumber (extended c s) (length e) ≡ 0
+  second-accepted p =
+      let u = update-zero c (length (s ++ e)) p in
+      let l = length-append s e in
+      let m = extended-message c s in
+      update-accepted (extended c s) (length e) (extended-range c s ∙ u .0) (omega arith)
+
+  one-to-both : updateNumber c (length (s ++ e)) ≡ 0 → (updateNumber c (length s) ≡ 0) × (updateNumber (updateContext c s) (length e) ≡ 0)
+  one-to-both p = (first-accepted p, rw (update-is c s (first-accepted p)) (second-accepted p))
+
+  compose : length (c .block) ≡ 64 → updateNumber c (length (s ++ e)) ≡ 0 → updateContext (updateContext c s) e ≡ updateContext c (s ++ e)
+  compose l p =
+      rw (update-is c s (first-accepted p), update-is (extended c s) e (second-accepted p), update-is c (s ++ e) p) (in-parts c l s e)
+
+refused-later : (key : List ℕ) (nn : ℕ) → (beginNumber (length key) nn ≡ 0 → ⊥)
+    → (n : ℕ) → (updateNumber (beginContext key nn) n ≡ 1) × (finishNumber (beginContext key nn) n ≡ 1)
+unfolding beginContext refusedContext updateNumber finishNumber inRange
+refused-later key nn h n = (rw (ne-eqb (beginNumber (length key) nn) 0 h), rw (ne-eqb (beginNumber (length key) nn) 0 h))
+
+pub streaming : Streaming
+streaming = record {
+  streamed = all-streamed;
+  both = λ c s e. (both-to-one c s e, one-to-both c s e);
+  composed = compose;
+  refused = refused-later;
+}

@@ -1,0 +1,154 @@
+#!/usr/bin/env python3
+"""The expected standard output of the program `vectors`, made with hashlib.
+
+    vectors.py                 prints it
+    vectors.py --check FILE    exits non-zero, and says what differs, unless FILE holds it
+"""
+import hashlib
+import sys
+
+# RFC 7693, appendix B and appendix E.
+ABC = "508c5e8c327c14e2e1a72ba34eeb452f37458b209ed63a294d999b4c86675982"
+SELFTEST = "6a411f08ce25adcdfb02aba641451cec53c598b24f4fc787fbdc88797f4c1dfe"
+
+LONGEST = 4294967295
+KEYS = [0, 1, 31, 32]
+LENGTHS = [0, 1, 63, 64, 65, 127, 128, 129, 255, 256]
+STEPS = [1, 7, 63, 64, 65]
+FILL = b"\xaa"
+
+
+def refusal(size=32, begun=None, key=0, total=0, in_range=True):
+    """The number of a refused call, the lowest where several apply; 0 if it is accepted.
+
+    size is the output's length and begun the one that begin was told, if it was called before.
+    """
+    numbers = [0]
+    if not in_range:
+        numbers.append(1)
+    if size == 0 or size > 32 or (begun is not None and size != begun):
+        numbers.append(8)
+    if key > 32:
+        numbers.append(9)
+    if total > LONGEST:
+        numbers.append(10)
+    return min(numbers[1:], default=0)
+
+
+def counting(n):
+    return bytes(i % 256 for i in range(n))
+
+
+def blake2s(key, msg, size=32):
+    return hashlib.blake2s(msg, digest_size=size, key=key).digest()
+
+
+def selftest_seq(n, seed):
+    a = 0xDEAD4BAD * seed % 2**32
+    b = 1
+    out = bytearray()
+    for _ in range(n):
+        t = (a + b) % 2**32
+        a = b
+        b = t
+        out.append(t >> 24)
+    return bytes(out)
+
+
+def selftest():
+    grand = hashlib.blake2s(digest_size=32)
+    for size in [16, 20, 28, 32]:
+        for n in [0, 3, 64, 65, 255, 1024]:
+            msg = selftest_seq(n, n)
+            grand.update(blake2s(b"", msg, size))
+            grand.update(blake2s(selftest_seq(size, size), msg, size))
+    return grand.hexdigest()
+
+
+def in_parts(key, msg, step):
+    h = hashlib.blake2s(digest_size=32, key=key)
+    for at in range(0, len(msg), step):
+        h.update(msg[at : at + step])
+    return h.hexdigest()
+
+
+def room_after(number, key, msg, size):
+    """The output's bytes after the call: a refused one leaves them."""
+    return blake2s(key, msg, size) if number == 0 else FILL * size
+
+
+def known():
+    abc = blake2s(b"", b"abc").hex()
+    assert abc == ABC, abc
+    yield f"abc {abc}"
+    grand = selftest()
+    assert grand == SELFTEST, grand
+    yield f"selftest {grand}"
+    for k in KEYS:
+        for n in LENGTHS:
+            yield f"kat {k} {n} {blake2s(counting(k), counting(n)).hex()}"
+    for k in KEYS:
+        for n in LENGTHS:
+            for step in STEPS:
+                yield f"parts {k} {n} {step} {in_parts(counting(k), counting(n), step)}"
+
+
+def limits():
+    for size in [0, 1, 32, 33]:
+        number = refusal(size=size)
+        yield f"size {size} {number} {room_after(number, b'', b'abc', size).hex()}"
+    for k in [0, 32, 33]:
+        number = refusal(key=k)
+        yield f"key {k} {number} {room_after(number, counting(k), b'abc', 32).hex()}"
+    begin = refusal(key=33)
+    # What a refused begin hands back is out of range.
+    later = refusal(in_range=begin == 0)
+    yield f"refused-begin {begin} {later} {later} {room_after(later, counting(33), b'abc', 32).hex()}"
+    yield f"refused-size {refusal(size=0)} {refusal(size=33)}"
+    number = refusal(size=31, begun=32)
+    yield f"finish-length {number} {room_after(number, b'', b'abc', 31).hex()}"
+    line = "long"
+    total = LONGEST - 5
+    for part in [6, 5]:
+        number = refusal(total=total + part)
+        total = total + part if number == 0 else total
+        line += f" {number} {total}"
+    yield line
+
+
+def expected():
+    return "".join(line + "\n" for lines in (known(), limits()) for line in lines).encode()
+
+
+def check(path):
+    with open(path, "rb") as f:
+        got = f.read()
+    want = expected()
+    if got == want:
+        return 0
+    got_lines = got.split(b"\n")
+    want_lines = want.split(b"\n")
+    for i in range(max(len(got_lines), len(want_lines))):
+        g = got_lines[i] if i < len(got_lines) else None
+        w = want_lines[i] if i < len(want_lines) else None
+        if g != w:
+            print(f"{path}:{i + 1}: got {show(g)}, expected {show(w)}", file=sys.stderr)
+    return 1
+
+
+def show(line):
+    return "nothing" if line is None else repr(line.decode("latin-1"))
+
+
+def main(args):
+    if not args:
+        sys.stdout.buffer.write(expected())
+        return 0
+    if len(args) == 2 and args[0] == "--check":
+        return check(args[1])
+    print(__doc__, file=sys.stderr)
+    return 2
+
+
+if __name__ == "__main__":
+    sys.exit(main(sys.argv[1:]))
