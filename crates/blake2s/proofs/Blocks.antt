@@ -1,11 +1,11 @@
 -- The calls of F for the blocks of some data, one after the other.
 use mathlib.Core.Path.{_≡_, refl, ap, sym, _∙_}
-use mathlib.Core.Bool.{true, false}
-use mathlib.Core.List.{List, [], _∷_, _++_, append-nil}
+use mathlib.Core.Bool.{false}
+use mathlib.Core.List.{List, _++_, append-nil}
 use Prim.Native.Nat.{ℕ, zero, suc, _+_, _-_, _*_, _<_, _≤_}
 use native.Mathlib.Nat.{add-zero, zero-add, suc-add}
 use native.Mathlib.Omega.{arith}
-use lib.ListN.{length, take, drop, replicate, length-append, length-replicate, length-take, length-drop}
+use lib.ListN.{length, take, drop, length-append, length-replicate, length-drop}
 use lib.Seq.{take-append-le, drop-append-le, drop-drop, take-all, length-take-le}
 use Rattle.blake2s.specs.Rfc7693.{F, words, padded, blockAt, Compression, leading, compressed}
 use Rattle.blake2s.specs.Stream.{earlier}

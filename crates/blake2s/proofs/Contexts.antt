@@ -1,19 +1,16 @@
 -- A context: how its parts follow from how many bytes have come, and what a part of the message does to it.
-use mathlib.Core.Path.{_≡_, refl, ap, sym, _∙_}
-use mathlib.Core.Bool.{Bool, true, false, cond, not}
-use mathlib.Core.List.{List, [], _∷_, _++_, append-nil, append-assoc}
-use Prim.Native.Nat.{ℕ, zero, suc, _+_, _-_, _*_, _/_, _<_, _≤_}
-use native.Mathlib.Nat.{add-assoc}
+use mathlib.Core.Path.{_≡_, ap, sym, _∙_}
+use mathlib.Core.Bool.{Bool, true, false, cond}
+use mathlib.Core.List.{List, _++_}
+use Prim.Native.Nat.{ℕ, suc, _+_, _-_, _*_, _<_, _≤_}
 use native.Mathlib.Omega.{arith}
-use lib.Dec.{eqb}
-use lib.ListN.{length, take, drop, replicate, length-append, length-replicate, length-take, length-drop}
-use lib.Seq.{take-at, drop-at, paste, drop-append-add, drop-append-le, take-append-add, length-take-le, take-length, take-all, drop-drop}
-use borrow.Author.Tests.{eq-eqb, ne-eqb}
-use Rattle.blake2s.specs.Rfc7693.{F, words, padded, input, blockAt, leading, compressed, initial}
-use Rattle.blake2s.specs.Stream.{earlier, total, done, waiting, begun, extended}
+use lib.ListN.{length, take, drop, replicate, length-append, length-drop}
+use lib.Seq.{take-at, paste, drop-append-add, take-append-add, length-take-le, take-length}
+use Rattle.blake2s.specs.Rfc7693.{F, words, padded, blockAt}
+use Rattle.blake2s.specs.Stream.{earlier, total, done, waiting, extended}
 use Rattle.blake2s.specs.declared.Context.{Context}
-use Rattle.blake2s.proofs.Lists.{drop-replicate, drop-whole}
-use Rattle.blake2s.proofs.Blocks.{length-padded, padded-full, block-full, block-last, block-behind, after, after-zero, after-suc, after-split}
+use Rattle.blake2s.proofs.Lists.{drop-replicate}
+use Rattle.blake2s.proofs.Blocks.{padded-full, block-full, block-last, block-behind, after, after-zero, after-suc}
 
 -- s put behind x in its block
 pub paste-padded : (x s : List ℕ) (n : ℕ) → length x ≡ n → n + length s ≤ 64 → paste (padded x) n s (length s) ≡ padded (x ++ s)

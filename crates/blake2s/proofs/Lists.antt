@@ -1,7 +1,7 @@
 -- Laws of lists that the proofs share.
 use mathlib.Core.Path.{_≡_, refl, ap, ap₂, subst}
-use mathlib.Core.List.{List, [], _∷_, _++_, foldl, append-nil}
-use Prim.Native.Nat.{ℕ, zero, suc, _+_, _-_, _<_, _≤_}
+use mathlib.Core.List.{List, [], _∷_, _++_, foldl}
+use Prim.Native.Nat.{ℕ, zero, suc, _+_, _-_, _<_}
 use native.Mathlib.Nat.{zero-add, sub-zero, zero-sub, suc-sub-suc, le-of-suc-le-suc}
 use native.Mathlib.Omega.{arith}
 use native.Mathlib.Numerals.{add-one}

@@ -5,7 +5,7 @@ use Prim.Native.Nat.{ℕ, _+_, _<_, _≤_}
 use native.Mathlib.Omega.{arith}
 use lib.Dec.{ltb, leb, eqb}
 use borrow.Author.Tests.{eq-eqb, ne-eqb, lt-ltb, le-ltb, ltb-true, ltb-false, leb-true, le-leb}
-use Rattle.blake2s.specs.Hash.{badSize, tooLong, hashNumber}
+use Rattle.blake2s.specs.Hash.{badSize, hashNumber}
 use Rattle.blake2s.specs.Stream.{beginNumber, inRange, updateNumber, finishNumber}
 use Rattle.blake2s.specs.declared.Context.{Context}
 

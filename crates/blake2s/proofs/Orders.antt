@@ -1,16 +1,16 @@
 -- The table of message orders: each has sixteen entries below sixteen, each number once. One computed test over the table says so.
-use mathlib.Core.Path.{_≡_, subst⁻¹}
-use mathlib.Core.Bool.{Bool, true, false, _&&_}
-use mathlib.Core.List.{List, [], _∷_}
+use mathlib.Core.Path.{_≡_}
+use mathlib.Core.Bool.{Bool}
+use mathlib.Core.List.{List, []}
 use Prim.Native.Nat.{ℕ, _+_, _<_}
-use lib.Dec.{T, eqb, eqb→eq, ltb, ltb→lt}
+use lib.Dec.{eqb, eqb→eq, ltb, ltb→lt}
 use lib.ListN.{length, getD, drop}
 use lib.Seq.{drop-cons}
 use native.Mathlib.Numerals.{add-one}
 use Rattle.blake2s.specs.Rfc7693.{sigma, round, rounds}
 use Rattle.blake2s.specs.Steps.{Order}
 use Rattle.blake2s.specs.Theorems.{times}
-use Rattle.blake2s.proofs.Table.{and-left, and-right, below, below-at, all, all-at}
+use Rattle.blake2s.proofs.Table.{below, below-at, all, all-at}
 
 sixteen : List ℕ → Bool
 sixteen s = eqb (length s) 16

@@ -2,17 +2,16 @@
 use mathlib.Core.Path.{_≡_, refl, ap, sym, _∙_}
 use mathlib.Core.Bool.{Bool, true, false, cond, _||_}
 use mathlib.Core.List.{List, [], _∷_, _++_}
-use mathlib.Core.Logic.{_↔_}
-use Prim.Native.Nat.{ℕ, zero, suc, _+_, _-_, _*_, _/_, _^_, _<_, _≤_}
+use Prim.Native.Nat.{ℕ, suc, _+_, _-_, _*_, _/_, _^_, _<_, _≤_}
 use native.Mathlib.Omega.{arith}
 use lib.Dec.{ltb, eqb}
 use lib.ListN.{length, getD, drop, length-append, length-drop}
 use lib.Seq.{getD-at, take-all}
 use borrow.Author.Tests.{ltb-false, eqb-false, ne-eqb}
-use Rattle.blake2s.specs.Rfc7693.{sigma, iv, workVector, input, blockAt, blockCount, Compression, leading, compressions, blake2s}
+use Rattle.blake2s.specs.Rfc7693.{sigma, input, blockAt, blockCount, Compression, leading, compressions}
 use Rattle.blake2s.specs.Hash.{numberOf, hashNumber, hashOutput}
 use Rattle.blake2s.specs.Stream.{earlier, begun, extended, inRange, beginNumber, beginContext, updateNumber, updateContext, finishNumber, finishOutput, refusedContext}
-use Rattle.blake2s.specs.Theorems.{Hashing, Streamed, Streaming, run, numbers, joined}
+use Rattle.blake2s.specs.Theorems.{Hashing, Streamed, Streaming, joined}
 use Rattle.blake2s.specs.declared.Context.{Context}
 use Rattle.blake2s.specs.declared.Answer.{Answer}
 use Rattle.blake2s.specs.declared.Answer.the-variants.{Accepted, ContextRange, OutputLength, KeyLength, MessageLength}
@@ -22,7 +21,7 @@ use Rattle.blake2s.proofs.Vectors.{laid-out}
 use Rattle.blake2s.proofs.Blocks.{block-full}
 use Rattle.blake2s.proofs.Numbers.{hash-accepted, update-zero, update-accepted, finish-accepted, finish-not-one}
 use Rattle.blake2s.proofs.Streams.{length-input, blocks, calls, in-parts, stream-size, streamed}
-use Rattle.blake2s.proofs.Sessions.{begun-nil, at-range, Run, runs}
+use Rattle.blake2s.proofs.Sessions.{begun-nil, at-range, runs}
 
 module _ (key msg : List ℕ) (fits : length key ≤ 32) where
   leading-count : (n : ℕ) → length (leading n 0 (input key msg)) ≡ n

@@ -1,12 +1,12 @@
 -- The calls of update after an accepted begin. Each context reached is that of the key and of one part, the accepted ones joined.
-use mathlib.Core.Path.{_≡_, refl, ap, sym, _∙_}
+use mathlib.Core.Path.{_≡_, refl}
 use mathlib.Core.Bool.{Bool, true, false, cond}
 use mathlib.Core.List.{List, [], _∷_, _++_, append-nil, append-assoc}
-use Prim.Native.Nat.{ℕ, zero, suc, _+_, _*_, _<_, _≤_}
+use Prim.Native.Nat.{ℕ, zero, suc, _+_, _<_, _≤_}
 use native.Mathlib.Nat.{zero-add}
 use native.Mathlib.Omega.{arith}
 use lib.Dec.{ltb, eqb}
-use lib.ListN.{length, getD, take, drop, length-append, length-take}
+use lib.ListN.{length, getD, length-append}
 use borrow.Author.Tests.{ltb-true, ltb-false}
 use Rattle.blake2s.specs.Rfc7693.{padded, input, blockAt}
 use Rattle.blake2s.specs.Hash.{kept}
@@ -15,7 +15,7 @@ use Rattle.blake2s.specs.Theorems.{run, numbers, joined}
 use Rattle.blake2s.specs.declared.Context.{Context}
 use Rattle.blake2s.proofs.Blocks.{length-padded, padded-full, block-last, after-zero}
 use Rattle.blake2s.proofs.Numbers.{size-range, update-message, update-accepted}
-use Rattle.blake2s.proofs.Streams.{begun-done, begun-waits, begun-long, length-input, in-parts, stream-size}
+use Rattle.blake2s.proofs.Streams.{begun-waits, begun-long, length-input, in-parts, stream-size}
 
 -- the block of the key alone
 key-block : (key : List ℕ) → length key ≤ 32 → blockAt (input key []) 0 ≡ padded key
@@ -40,10 +40,6 @@ begun-nil key nn h =
     let z : earlier (length (input key [])) ≡ 0 = omega arith in
     rw (begun-waits key [] nn h, z, after-zero, key-block key h)
 
-length-block : (d : List ℕ) (i : ℕ) → length (blockAt d i) ≡ 64
-unfolding blockAt
-length-block d i = length-padded (take 64 (drop (64 * i) d)) (rw length-take (omega arith))
-
 -- a number that is not 1 in front of numbers that are not 1
 not-first : (k : ℕ) (ns : List ℕ) → (k ≡ 1 → ⊥) → ((i : ℕ) → getD ns i 0 ≡ 1 → ⊥) → (i : ℕ) → getD (k ∷ ns) i 0 ≡ 1 → ⊥
 not-first k ns p q zero = p
@@ -57,10 +53,6 @@ module _ (key : List ℕ) (nn : ℕ) (fits : length key ≤ 32) (some : 0 < nn) 
   -- the context after a key and the bytes x
   abbrev at : List ℕ → Context
   at x = extended (begun key nn) x
-
-  at-long : (x : List ℕ) → length (at x .block) ≡ 64
-  unfolding extended
-  at-long x = length-block _ _
 
   at-message : (x : List ℕ) → at x .message ≡ length x
   unfolding extended begun

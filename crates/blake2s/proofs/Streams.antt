@@ -1,20 +1,20 @@
 -- A message in parts: two parts are as one, and a whole message as one part gives the definition of RFC 7693.
 use mathlib.Core.Path.{_≡_, refl, ap, sym, _∙_}
 use mathlib.Core.Bool.{Bool, true, false, cond, not}
-use mathlib.Core.List.{List, [], _∷_, _++_, foldl, append-assoc}
-use Prim.Native.Nat.{ℕ, zero, suc, _+_, _-_, _*_, _/_, _<_, _≤_}
-use native.Mathlib.Nat.{add-zero, zero-add}
+use mathlib.Core.List.{List, [], _∷_, _++_, append-assoc}
+use Prim.Native.Nat.{ℕ, suc, _+_, _-_, _*_, _/_, _≤_}
+use native.Mathlib.Nat.{zero-add}
 use native.Mathlib.Omega.{arith}
 use lib.Dec.{eqb}
-use lib.ListN.{length, take, drop, length-append, length-drop}
+use lib.ListN.{length, drop, length-append, length-drop}
 use lib.Seq.{drop-append-le, take-all}
 use borrow.Author.Tests.{ne-eqb, eqb-true, eqb-false}
-use Rattle.blake2s.specs.Rfc7693.{F, words, bytes, padded, input, blockAt, blockCount, Compression, leading, compressions, compressed, initial, blake2s}
+use Rattle.blake2s.specs.Rfc7693.{padded, input, blockAt, blockCount, leading, compressions, compressed, initial, blake2s}
 use Rattle.blake2s.specs.Stream.{earlier, total, done, waiting, begun, extended, closed}
 use Rattle.blake2s.specs.declared.Context.{Context}
 use Rattle.blake2s.proofs.Lists.{foldl-snoc}
 use Rattle.blake2s.proofs.Blocks.{length-padded, block-last, block-behind, after, after-split}
-use Rattle.blake2s.proofs.Contexts.{last-fits, earlier-sum, waits, total-extended, done-extended, waiting-extended}
+use Rattle.blake2s.proofs.Contexts.{last-fits, earlier-sum, total-extended, done-extended, waiting-extended}
 
 module _ (c : Context) (long : length (c .block) ≡ 64) (s e : List ℕ) where
   pub in-parts : extended (extended c s) e ≡ extended c (s ++ e)

@@ -1,5 +1,5 @@
 -- The refusals of hashing: document 01, "Numbers of refused calls and of stops". Where several apply the lowest is given; 0 is none.
-use Prim.Native.Nat.{ℕ, _^_}
+use Prim.Native.Nat.{ℕ}
 use mathlib.Core.Bool.{Bool, cond, _||_}
 use mathlib.Core.List.{List}
 use lib.Dec.{eqb, ltb}

@@ -2,7 +2,7 @@
 -- a block is final until then, so a full one waits.
 use Prim.Native.Nat.{ℕ, _+_, _-_, _*_, _/_}
 use mathlib.Core.Bool.{Bool, true, false, cond, _&&_, not}
-use mathlib.Core.List.{List, [], _∷_, _++_}
+use mathlib.Core.List.{List, _++_}
 use lib.Dec.{eqb, ltb, leb}
 use lib.ListN.{length, take, replicate}
 use Rattle.blake2s.specs.Rfc7693.{bb, bytes, words, F, padded, blockAt, leading, compressed, initial}

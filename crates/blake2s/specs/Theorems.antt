@@ -1,13 +1,13 @@
 -- What is proved about hashing besides the promises. The proofs are `hashing` and `streaming` in proofs/Proved.antt.
-use Prim.Native.Nat.{ℕ, zero, suc, _+_, _*_, _^_, _<_, _≤_}
+use Prim.Native.Nat.{ℕ, suc, _+_, _*_, _^_, _<_, _≤_}
 use mathlib.Core.Path.{_≡_}
-use mathlib.Core.Bool.{Bool, true, false, cond}
+use mathlib.Core.Bool.{Bool, true, cond}
 use mathlib.Core.List.{List, [], _∷_, _++_}
 use mathlib.Core.Logic.{_↔_}
 use lib.Dec.{eqb}
 use lib.ListN.{length, getD, drop}
 use lib.Bits.{bitXor}
-use Rattle.blake2s.specs.Rfc7693.{bb, ceil, iv, sigma, workVector, Compression, leading, compressions, blake2s}
+use Rattle.blake2s.specs.Rfc7693.{bb, ceil, iv, sigma, workVector, Compression, leading, compressions}
 use Rattle.blake2s.specs.Hash.{numberOf, kept, hashNumber, hashOutput}
 use Rattle.blake2s.specs.Stream.{inRange, beginNumber, beginContext, updateNumber, updateContext, finishNumber, finishOutput}
 use Rattle.blake2s.specs.declared.Answer.{Answer}

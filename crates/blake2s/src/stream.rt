@@ -4,10 +4,8 @@ use super::compression::IV;
 use super::compression::compress;
 ghost use mathlib.Core.Path.{_≡_};
 ghost use Prim.Native.Nat.{_+_, _*_, _/_, _%_, _^_, _<_, _≤_};
-ghost use mathlib.Core.Bool.{true};
-ghost use mathlib.Core.List.{_++_};
 ghost use lib.Seq.{paste};
-ghost use lib.ListN.{getD, length, take, drop};
+ghost use lib.ListN.{getD, length, take};
 ghost use Rattle.blake2s.specs.Rfc7693.{bytes, padded, leading, compressed, initial};
 ghost use Rattle.blake2s.specs.Stream.{earlier, total, done, waiting, begun, extended, closed, inRange};
 

@@ -1,7 +1,7 @@
 -- The theorem of specs/Theorems.antt about the header byte. The list of lengths is used through two laws: the code of the length of a code is
 -- that code, and the length of the code of a length is that length. The rest is arithmetic on the fields.
 use Prim.Native.Nat.{ℕ, zero, suc, _+_, _*_, _/_, _%_, _<_, _≤_}
-use mathlib.Core.Path.{_≡_, refl, sym, ap}
+use mathlib.Core.Path.{_≡_, refl, sym}
 use mathlib.Core.Bool.{Bool, true, false, cond, _&&_}
 use mathlib.Core.List.{List, [], _∷_}
 use mathlib.Core.Logic.{_⊎_, inl, inr, ⊎-elim}
@@ -9,8 +9,8 @@ use native.Mathlib.Nat.{le-of-suc-le-suc, mul-one}
 use native.Mathlib.Omega.{arith}
 use lib.Dec.{eqb, ltb}
 use lib.ListN.{length, getD}
-use borrow.Author.Tests.{eq-eqb, ne-eqb, eqb-true, eqb-false, lt-ltb, ltb-true, ltb-false}
-use Rattle.framing.specs.Header.{indexOf, lengthOf, codeOf, clean, Reading, good, stop, Writing, byte, refused, headerAt, headerByte}
+use borrow.Author.Tests.{eq-eqb, eqb-true, eqb-false, lt-ltb, ltb-true, ltb-false}
+use Rattle.framing.specs.Header.{indexOf, lengthOf, codeOf, Reading, good, stop, Writing, byte, refused, headerAt, headerByte}
 use Rattle.framing.specs.Answers.{readingOf, writingOf}
 use Rattle.framing.specs.Theorems.{Headers, bit}
 use Rattle.framing.specs.declared.Header.{Header}

@@ -2,7 +2,7 @@
 use Prim.Native.Nat.{ℕ, _/_, _%_, _^_, _<_, _≤_}
 use mathlib.Core.Path.{_≡_}
 use mathlib.Core.Logic.{_↔_, _⊎_}
-use Rattle.framing.specs.Header.{Reading, good, stop, Writing, byte, refused, headerAt, headerByte}
+use Rattle.framing.specs.Header.{good, stop, byte, refused, headerAt, headerByte}
 use Rattle.framing.specs.Answers.{readingOf, writingOf}
 use Rattle.framing.specs.declared.Header.{Header}
 use Rattle.framing.specs.declared.Written.{Written}

@@ -3,7 +3,6 @@ use native.Mathlib.Omega.{arith}
 use lib.ListN.{length}
 use Rattle.blake2s.specs.Stream.{beginContext}
 use Rattle.blake2s.proofs.Numbers.{begin-none, begin-over, begin-key, begin-accepted}
-use mathlib.Core.Path.{sym}
 use borrow.Author.Needs.{needs}
 use Rattle.blake2s.proofs.begin.Statement.{statement}
 use Rattle.blake2s.proofs.begin.Tie as tie

@@ -1,6 +1,5 @@
 -- Each return has the number that the tests on the way to it leave, and the output of that number; `streamed` says that the message as one part
 -- gives the hash.
-use mathlib.Core.Path.{_≡_}
 use Prim.Native.Nat.{_≤_}
 use native.Mathlib.Omega.{arith}
 use lib.ListN.{length}

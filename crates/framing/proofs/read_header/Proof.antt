@@ -16,9 +16,6 @@ returns-2 : tie.Need-returns-2
 unfolding headerAt
 returns-2 c = simp (eq-eqb _ _ (c .before .if1 .left), ne-eqb _ _ (c .if2 .taken))
 
-body-length-requires : tie.Need-body-length-requires
-body-length-requires c κs = search needs
-
 returns-3 : tie.Need-returns-3
 unfolding headerAt
 returns-3 c =
@@ -32,4 +29,9 @@ returns-3 c =
     )
 
 pub read-header-spec : {M : Type 1} → statement M
-read-header-spec = tie.close (tie.spec returns returns-2 body-length-requires returns-3)
+read-header-spec = tie.close
+    (tie.spec
+    returns
+    returns-2
+    (λ c κs. search needs)
+    returns-3)

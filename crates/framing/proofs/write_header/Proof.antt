@@ -1,6 +1,5 @@
 -- Each return rewrites the definition with the tests that led to it: a number fits its field when it is at most 3.
-use Prim.Native.Nat.{_*_, _<_, _≤_}
-use mathlib.Core.Path.{_≡_}
+use Prim.Native.Nat.{_<_}
 use native.Mathlib.Omega.{arith}
 use native.Mathlib.Nat.{mul-one}
 use borrow.Author.Tests.{lt-ltb, le-ltb}
@@ -8,9 +7,6 @@ use borrow.Author.Needs.{needs}
 use Rattle.framing.specs.Header.{headerByte}
 use Rattle.framing.proofs.write_header.Statement.{statement}
 use Rattle.framing.proofs.write_header.Tie as tie
-
-length-code-requires : tie.Need-length-code-requires
-length-code-requires c κs = search needs
 
 returns : tie.Need-returns
 unfolding headerByte
@@ -31,18 +27,6 @@ returns-3 c =
     let e : a .endpoint < 4 = omega arith in
     simp (lt-ltb (a .id) 4 i, lt-ltb (a .endpoint) 4 e, ← c .before .before .before .length-code .ensures, le-ltb _ 4 (c .if3 .taken))
 
-mul-t6 : tie.Need-mul-t6
-mul-t6 c = search needs
-
-mul-t7 : tie.Need-mul-t7
-mul-t7 c = search needs
-
-add-t8 : tie.Need-add-t8
-add-t8 c = search needs
-
-add-t9 : tie.Need-add-t9
-add-t9 c = search needs
-
 returns-4 : tie.Need-returns-4
 unfolding headerByte
 returns-4 c =
@@ -56,4 +40,13 @@ returns-4 c =
 pub write-header-spec : {M : Type 1} → statement M
 write-header-spec =
     tie.close
-    (tie.spec length-code-requires returns returns-2 returns-3 mul-t6 mul-t7 add-t8 add-t9 returns-4)
+    (tie.spec
+    (λ c κs. search needs)
+    returns
+    returns-2
+    returns-3
+    (λ c. search needs)
+    (λ c. search needs)
+    (λ c. search needs)
+    (λ c. search needs)
+    returns-4)

@@ -1,5 +1,4 @@
 -- The two arms are those of `cond`.
-use mathlib.Core.Path.{refl, sym}
 use borrow.Author.Needs.{needs}
 use Rattle.blake2s.proofs.compression.inverted_if.Statement.{statement}
 use Rattle.blake2s.proofs.compression.inverted_if.Tie as tie

@@ -18,21 +18,9 @@ abbrev μ-loop : tie.MeasureT-loop
 loop-holds : tie.Need-loop-holds Inv-loop μ-loop
 loop-holds c = (omega arith, refl)
 
-mul-round : tie.Need-mul-round Inv-loop μ-loop
-mul-round c = search needs
-
-array-copy-out-round : tie.Need-array-copy-out-round Inv-loop μ-loop
-array-copy-out-round c = search needs
-
 round-requires : tie.Need-round-requires Inv-loop μ-loop
 unfolding sigma
 round-requires c κs = order-at (c .before .before .loop .i) (omega arith)
-
-add-i : tie.Need-add-i Inv-loop μ-loop
-add-i c = search needs
-
-loop-less : tie.Need-loop-less Inv-loop μ-loop
-loop-less c = search needs
 
 loop-again : tie.Need-loop-again Inv-loop μ-loop
 unfolding sigma
@@ -53,10 +41,10 @@ rounds-spec =
     Inv-loop
     μ-loop
     loop-holds
-    mul-round
-    array-copy-out-round
+    (λ c. search needs)
+    (λ c. search needs)
     round-requires
-    add-i
-    loop-less
+    (λ c. search needs)
+    (λ c. search needs)
     loop-again
     returns)

@@ -1,6 +1,4 @@
 -- The two tests of the code are those of the definition.
-use Prim.Native.Nat.{_<_}
-use mathlib.Core.Path.{_≡_}
 use native.Mathlib.Omega.{arith}
 use borrow.Author.Tests.{lt-ltb, le-ltb}
 use Rattle.blake2s.specs.Stream.{inRange}
