@@ -1,5 +1,5 @@
 #!/usr/bin/env python3
-"""The expected standard output of the program `vectors`, made with hashlib.
+"""The expected standard output of the program `vectors`: hashes by hashlib, headers by their bits.
 
     vectors.py                 prints it
     vectors.py --check FILE    exits non-zero, and says what differs, unless FILE holds it
@@ -7,9 +7,13 @@
 import hashlib
 import sys
 
-# RFC 7693, appendix B and appendix E.
+# RFC 7693, appendix B and appendix E; and of the known answers that BLAKE2 is published with, those of the empty message.
 ABC = "508c5e8c327c14e2e1a72ba34eeb452f37458b209ed63a294d999b4c86675982"
 SELFTEST = "6a411f08ce25adcdfb02aba641451cec53c598b24f4fc787fbdc88797f4c1dfe"
+KAT = {
+    0: "69217a3079908094e11121d042354a7c1f55b6482ca1a51e1b250dfd1ed0eef9",
+    32: "48a8997da407876b3d79c0d92325ad3b89cbb754d86ab71aee047ad345fd2c49",
+}
 
 LONGEST = 4294967295
 KEYS = [0, 1, 31, 32]
@@ -77,6 +81,24 @@ def room_after(number, key, msg, size):
     return blake2s(key, msg, size) if number == 0 else FILL * size
 
 
+def headers():
+    lengths = {"00": 1, "01": 4, "10": 32, "11": 128}
+    for b in range(256):
+        bits = format(b, "08b")  # bit 7 first
+        if bits[0] == "1" or bits[5] == "1":
+            yield f"read {b} bad"
+        else:
+            yield f"read {b} {int(bits[1:3], 2)} {int(bits[3:5], 2)} {lengths[bits[6:8]]}"
+    codes = {n: code for code, n in lengths.items()}
+    for i in [0, 1, 2, 3, 4, 255]:
+        for ep in [0, 1, 2, 3, 4, 255]:
+            for n in [0, 1, 2, 3, 4, 5, 31, 32, 33, 127, 128, 129, 2**32 + 1, 2**64 - 1]:
+                if i > 3 or ep > 3 or n not in codes:
+                    yield f"write {i} {ep} {n} refused 11"
+                else:
+                    yield f"write {i} {ep} {n} {int(f'0{i:02b}{ep:02b}0{codes[n]}', 2)}"
+
+
 def known():
     abc = blake2s(b"", b"abc").hex()
     assert abc == ABC, abc
@@ -84,6 +106,8 @@ def known():
     grand = selftest()
     assert grand == SELFTEST, grand
     yield f"selftest {grand}"
+    for k, digest in KAT.items():
+        assert blake2s(counting(k), b"").hex() == digest, k
     for k in KEYS:
         for n in LENGTHS:
             yield f"kat {k} {n} {blake2s(counting(k), counting(n)).hex()}"
@@ -117,7 +141,7 @@ def limits():
 
 
 def expected():
-    return "".join(line + "\n" for lines in (known(), limits()) for line in lines).encode()
+    return "".join(line + "\n" for lines in (headers(), known(), limits()) for line in lines).encode()
 
 
 def check(path):

@@ -11,7 +11,7 @@ use borrow.Author.Tests.{ltb-false, eqb-false, ne-eqb}
 use Rattle.blake2s.specs.Rfc7693.{sigma, input, blockAt, blockCount, Compression, leading, compressions}
 use Rattle.blake2s.specs.Hash.{numberOf, hashNumber, hashOutput}
 use Rattle.blake2s.specs.Stream.{earlier, begun, extended, inRange, beginNumber, beginContext, updateNumber, updateContext, finishNumber, finishOutput, refusedContext}
-use Rattle.blake2s.specs.Theorems.{Hashing, Streamed, Streaming, joined}
+use Rattle.blake2s.specs.Theorems.{Hashing, Streamed, Streaming, run, numbers, joined}
 use Rattle.blake2s.specs.declared.Context.{Context}
 use Rattle.blake2s.specs.declared.Answer.{Answer}
 use Rattle.blake2s.specs.declared.Answer.the-variants.{Accepted, ContextRange, OutputLength, KeyLength, MessageLength}
@@ -53,14 +53,16 @@ keyed-count : (key msg : List ℕ) → 0 < length key → length key ≤ 32 → 
 unfolding blockCount
 keyed-count key msg p h = rw (count key msg h, ne-eqb (length key + length msg) 0 (λ e. omega arith)) (omega arith)
 
-full-last : (msg : List ℕ) (k : ℕ) → length msg ≡ 64 * suc k
-    → compressions [] msg ≡ leading k 0 msg ++ record { block = drop (64 * k) msg; counter = length msg; last = true } ∷ []
-unfolding input earlier
-full-last msg k e =
-    let n : earlier (length msg) ≡ k = omega arith in
-    let l : length (drop (64 * k) msg) ≡ length msg - 64 * k = length-drop (64 * k) msg in
-    let b : blockAt msg k ≡ drop (64 * k) msg = block-full msg k (omega arith) ∙ take-all 64 (drop (64 * k) msg) (omega arith) in
-    rw (calls [] msg (omega arith), n, b)
+full-last : (key msg : List ℕ) (k : ℕ) → length key ≤ 32 → length (input key msg) ≡ 64 * suc k
+    → compressions key msg
+    ≡ leading k 0 (input key msg) ++ record { block = drop (64 * k) (input key msg); counter = length (input key msg); last = true } ∷ []
+unfolding earlier
+full-last key msg k h e =
+    let d = input key msg in
+    let n : earlier (length d) ≡ k = omega arith in
+    let l : length (drop (64 * k) d) ≡ length d - 64 * k = length-drop (64 * k) d in
+    let b : blockAt d k ≡ drop (64 * k) d = block-full d k (omega arith) ∙ take-all 64 (drop (64 * k) d) (omega arith) in
+    rw (calls key msg h, n, b)
 
 -- the answer of a number
 answer : ℕ → Answer
@@ -86,10 +88,10 @@ hashing = record {
   unkeyed = unkeyed-count;
   keyed = keyed-count;
   full = full-last;
-  past = λ key msg p h e z i j.
+  longest = λ key msg p h e z i j.
       let l : length (input key msg) ≡ length msg + 64 = rw (length-input key msg h, ne-eqb (length key) 0 (λ o. omega arith)) in
       last-counter key msg h z i j ∙ omega arith;
-  high = λ h f e. (rw (← laid-out h (2 ^ 32 + 63) f e), rw (← laid-out h (2 ^ 32 + 63) f e));
+  carry = λ h f e. (rw (← laid-out h (2 ^ 32 + 63) f e), rw (← laid-out h (2 ^ 32 + 63) f e));
   number = same-number;
 }
 
@@ -109,28 +111,28 @@ accepted-begin key nn = go (eqb nn 0) (ltb 32 nn) (ltb 32 (length key)) refl ref
     go false true z p q r e = absurd (omega arith)
     go true y z p q r e = absurd (omega arith)
 
-module _ (key : List ℕ) (nn : ℕ) (parts : List (List ℕ)) (accepted : beginNumber (length key) nn ≡ 0) where
+module _ (key : List ℕ) (nn : ℕ) (accepted : beginNumber (length key) nn ≡ 0) where
   begin-is : beginContext key nn ≡ extended (begun key nn) []
   unfolding beginContext
   begin-is = rw accepted (sym (begun-nil key nn (accepted-begin key nn accepted .fits)))
 
-  all-streamed : Streamed key nn parts
+  all-streamed : (parts : List (List ℕ)) → Streamed key nn (run (beginContext key nn) parts) (numbers (beginContext key nn) parts) (joined (beginContext key nn) parts)
   unfolding finishOutput hashOutput
-  all-streamed =
+  all-streamed parts =
       let b = accepted-begin key nn accepted in
-      let c = extended (begun key nn) [] in
-      let x = joined c parts in
+      let x = joined (extended (begun key nn) []) parts in
+      let c = extended (begun key nn) x in
       let r = runs key nn (b .fits) (b .some) (b .small) parts [] (omega arith) in
-      let g = at-range key nn (b .fits) (b .some) (b .small) x in
-      let z = stream-size key x nn (b .fits) in
-      let f : finishNumber (extended (begun key nn) x) nn ≡ 0 = finish-accepted (extended (begun key nn) x) nn g (sym z) in
+      let g : inRange c ≡ true = at-range key nn (b .fits) (b .some) (b .small) x in
+      let f : finishNumber c nn ≡ 0 = finish-accepted c nn g (sym (stream-size key x nn (b .fits))) in
       let k : hashNumber (length key) (length x) nn ≡ 0 = hash-accepted (length key) nn (length x) (b .some) (b .small) (b .fits) (r .short) in
+      rw (begin-is, r .last)
       record {
-        range = rw (begin-is, r .last) g;
-        updates = rw begin-is (r .quiet);
-        finishes = λ n. rw (begin-is, r .last) (finish-not-one (extended (begun key nn) x) n g);
-        accepted = (rw (begin-is, r .last) f, rw begin-is k);
-        same = λ out e. rw (begin-is, r .last, e, f, k) (streamed key x nn (b .fits));
+        range = g;
+        updates = r .quiet;
+        finishes = λ n. finish-not-one c n g;
+        accepted = (f, k);
+        same = λ out e. rw (e, f, k) (streamed key x nn (b .fits));
       }
 
 module _ (c : Context) (s : List ℕ) where
@@ -175,15 +177,15 @@ module _ (c : Context) (s e : List ℕ) where
   compose l p =
       rw (update-is c s (first-accepted p), update-is (extended c s) e (second-accepted p), update-is c (s ++ e) p) (in-parts c l s e)
 
-refused-later : (key : List ℕ) (nn : ℕ) → (beginNumber (length key) nn ≡ 0 → ⊥)
-    → (n : ℕ) → (updateNumber (beginContext key nn) n ≡ 1) × (finishNumber (beginContext key nn) n ≡ 1)
-unfolding beginContext refusedContext updateNumber finishNumber inRange
-refused-later key nn h n = (rw (ne-eqb (beginNumber (length key) nn) 0 h), rw (ne-eqb (beginNumber (length key) nn) 0 h))
+refused-is : (key : List ℕ) (nn : ℕ) → (beginNumber (length key) nn ≡ 0 → ⊥) → beginContext key nn ≡ refusedContext
+unfolding beginContext
+refused-is key nn h = rw (ne-eqb (beginNumber (length key) nn) 0 h)
 
 pub streaming : Streaming
+unfolding updateNumber updateContext finishNumber inRange refusedContext
 streaming = record {
-  streamed = all-streamed;
+  streamed = λ key nn parts a. all-streamed key nn a parts;
   both = λ c s e. (both-to-one c s e, one-to-both c s e);
   composed = compose;
-  refused = refused-later;
+  refused = λ key nn h s n. rw (refused-is key nn h) (refl, refl, refl);
 }

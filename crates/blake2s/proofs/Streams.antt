@@ -27,7 +27,7 @@ module _ (c : Context) (long : length (c .block) ≡ 64) (s e : List ℕ) where
       let o : done (extended c s) ≡ done c + 64 * n = done-extended c long s in
       let v : 64 * n ≤ length d = last-fits (length d) .0 in
       let a : waiting c ++ (s ++ e) ≡ d ++ e = sym (append-assoc (waiting c) s e) in
-      let lx : length (x ++ e) ≡ length d - 64 * n + length e = rw (length-append, length-drop) in
+      let lx : length (x ++ e) ≡ length d - 64 * n + length e = rw (length-append x e, length-drop (64 * n) d) in
       let ld : length (d ++ e) ≡ length d + length e = length-append d e in
       let m = earlier (length (x ++ e)) in
       let k : earlier (length (d ++ e)) ≡ n + m = rw (ld, lx) (earlier-sum (length d) (length e)) in

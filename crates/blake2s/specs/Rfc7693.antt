@@ -110,7 +110,7 @@ workVector h t f =
 abbrev pub selected : List ℕ → List ℕ → ℕ → ℕ
 selected m s j = getD m (getD s j 0) 0
 
--- 3.2: a round, with the message words m in the order s
+-- 3.2: a round, with the message words m in the order s: the four columns, then the four diagonals
 unfoldable pub round : List ℕ → List ℕ → List ℕ → List ℕ
 round m s v =
     let v1 = G v 0 4 8 12 (selected m s 0) (selected m s 1) in
@@ -122,7 +122,7 @@ round m s v =
     let v7 = G v6 2 7 8 13 (selected m s 12) (selected m s 13) in
     G v7 3 4 9 14 (selected m s 14) (selected m s 15)
 
--- 3.2: a round for each order; BLAKE2s has r = 10 rounds, as many as there are orders
+-- 3.2: the rounds, one for each order in turn: BLAKE2s has r = 10 of them, so that SIGMA[i mod 10] is SIGMA[i]
 unfoldable pub rounds : List ℕ → List (List ℕ) → List ℕ → List ℕ
 rounds m ss v = foldl (λ u s. round m s u) v ss
 
@@ -164,8 +164,8 @@ unfoldable pub compressions : List ℕ → List ℕ → List Compression
 compressions key msg =
     let d = input key msg in
     let dd = blockCount (length key) (length msg) in
-    let ll = cond (eqb (length key) 0) (length msg) (length msg + bb) in
-    leading (dd - 1) 0 d ++ record { block = blockAt d (dd - 1); counter = ll; last = true } ∷ []
+    let t = cond (eqb (length key) 0) (length msg) (length msg + bb) in
+    leading (dd - 1) 0 d ++ record { block = blockAt d (dd - 1); counter = t; last = true } ∷ []
 
 -- 3.3: the state after some calls of F
 unfoldable pub compressed : List ℕ → List Compression → List ℕ

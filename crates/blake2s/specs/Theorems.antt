@@ -7,7 +7,7 @@ use mathlib.Core.Logic.{_↔_}
 use lib.Dec.{eqb}
 use lib.ListN.{length, getD, drop}
 use lib.Bits.{bitXor}
-use Rattle.blake2s.specs.Rfc7693.{bb, ceil, iv, sigma, workVector, Compression, leading, compressions}
+use Rattle.blake2s.specs.Rfc7693.{bb, ceil, iv, sigma, workVector, input, Compression, leading, compressions}
 use Rattle.blake2s.specs.Hash.{numberOf, kept, hashNumber, hashOutput}
 use Rattle.blake2s.specs.Stream.{inRange, beginNumber, beginContext, updateNumber, updateContext, finishNumber, finishOutput}
 use Rattle.blake2s.specs.declared.Answer.{Answer}
@@ -26,13 +26,14 @@ pub record Hashing : Type 0 where
   pub empty : length (compressions [] []) ≡ 1
   pub unkeyed : (msg : List ℕ) → 0 < length msg → length (compressions [] msg) ≡ ceil (length msg)
   pub keyed : (key msg : List ℕ) → 0 < length key → length key ≤ 32 → length (compressions key msg) ≡ 1 + ceil (length msg)
-  -- a full block at the end of the message is the final one
-  pub full : (msg : List ℕ) (k : ℕ) → length msg ≡ bb * suc k
-      → compressions [] msg ≡ leading k 0 msg ++ record { block = drop (bb * k) msg; counter = length msg; last = true } ∷ []
-  -- the longest message with a key: the counter passes 2^32, and its high word is 1
-  pub past : (key msg : List ℕ) → 0 < length key → length key ≤ 32 → length msg ≡ 4294967295
+  -- no block is added after a full one: where the input ends with its block k, that is the final block
+  pub full : (key msg : List ℕ) (k : ℕ) → length key ≤ 32 → length (input key msg) ≡ bb * suc k
+      → compressions key msg
+      ≡ leading k 0 (input key msg) ++ record { block = drop (bb * k) (input key msg); counter = length (input key msg); last = true } ∷ []
+  -- the longest message with a key: the last counter passes 2^32, and its words are 63 and 1
+  pub longest : (key msg : List ℕ) → 0 < length key → length key ≤ 32 → length msg ≡ 4294967295
       → (z : Compression) (i : ℕ) → suc i ≡ length (compressions key msg) → getD (compressions key msg) i z .counter ≡ 2 ^ 32 + 63
-  pub high : (h : List ℕ) (f : Bool) → length h ≡ 8
+  pub carry : (h : List ℕ) (f : Bool) → length h ≡ 8
       → (getD (workVector h (2 ^ 32 + 63) f) 12 0 ≡ bitXor (getD iv 4 0) 63) × (getD (workVector h (2 ^ 32 + 63) f) 13 0 ≡ bitXor (getD iv 5 0) 1)
   -- an answer is settled by its number
   pub number : (x y : Answer) → numberOf x ≡ numberOf y → x ≡ y
@@ -52,25 +53,26 @@ unfoldable pub joined : Context → List (List ℕ) → List ℕ
 joined c [] = []
 joined c (s ∷ ss) = kept (updateNumber c (length s)) s [] ++ joined (updateContext c s) ss
 
--- after an accepted begin and any updates, refused ones included
-pub record Streamed (key : List ℕ) (nn : ℕ) (parts : List (List ℕ)) : Type 0 where
+-- a hash begun with a key for nn bytes: its context c, after updates that answered these numbers, of which the accepted parts joined are x
+pub record Streamed (key : List ℕ) (nn : ℕ) (c : Context) (answers x : List ℕ) : Type 0 where
   -- the context is in range, and no call has answered 1 or will
-  pub range : inRange (run (beginContext key nn) parts) ≡ true
-  pub updates : (i : ℕ) → getD (numbers (beginContext key nn) parts) i 0 ≡ 1 → ⊥
-  pub finishes : (n : ℕ) → finishNumber (run (beginContext key nn) parts) n ≡ 1 → ⊥
-  -- finish gives what one call gives for the accepted parts joined
-  pub accepted : (finishNumber (run (beginContext key nn) parts) nn ≡ 0) × (hashNumber (length key) (length (joined (beginContext key nn) parts)) nn ≡ 0)
-  pub same : (out : List ℕ) → length out ≡ nn
-      → finishOutput (run (beginContext key nn) parts) out ≡ hashOutput key (joined (beginContext key nn) parts) out
+  pub range : inRange c ≡ true
+  pub updates : (i : ℕ) → getD answers i 0 ≡ 1 → ⊥
+  pub finishes : (n : ℕ) → finishNumber c n ≡ 1 → ⊥
+  -- finish gives what one call gives for x
+  pub accepted : (finishNumber c nn ≡ 0) × (hashNumber (length key) (length x) nn ≡ 0)
+  pub same : (out : List ℕ) → length out ≡ nn → finishOutput c out ≡ hashOutput key x out
 
 pub record Streaming : Type 0 where
-  pub streamed : (key : List ℕ) (nn : ℕ) (parts : List (List ℕ)) → beginNumber (length key) nn ≡ 0 → Streamed key nn parts
+  -- so it is after every accepted begin, for every list of updates, refused ones included
+  pub streamed : (key : List ℕ) (nn : ℕ) (parts : List (List ℕ)) → beginNumber (length key) nn ≡ 0
+      → Streamed key nn (run (beginContext key nn) parts) (numbers (beginContext key nn) parts) (joined (beginContext key nn) parts)
   -- two parts are as one part of both: they are accepted as it is,
   pub both : (c : Context) (s e : List ℕ)
       → ((updateNumber c (length s) ≡ 0) × (updateNumber (updateContext c s) (length e) ≡ 0)) ↔ (updateNumber c (length (s ++ e)) ≡ 0)
   -- and lead to the same context; a context's block is an array of 64 bytes
   pub composed : (c : Context) (s e : List ℕ) → length (c .block) ≡ 64 → updateNumber c (length (s ++ e)) ≡ 0
       → updateContext (updateContext c s) e ≡ updateContext c (s ++ e)
-  -- what a refused begin hands back is refused by every later call with 1
-  pub refused : (key : List ℕ) (nn : ℕ) → (beginNumber (length key) nn ≡ 0 → ⊥)
-      → (n : ℕ) → (updateNumber (beginContext key nn) n ≡ 1) × (finishNumber (beginContext key nn) n ≡ 1)
+  -- what a refused begin hands back is refused by every later call with 1, and no update changes it
+  pub refused : (key : List ℕ) (nn : ℕ) → (beginNumber (length key) nn ≡ 0 → ⊥) → (s : List ℕ) (n : ℕ)
+      → (updateNumber (beginContext key nn) (length s) ≡ 1) × (updateContext (beginContext key nn) s ≡ beginContext key nn) × (finishNumber (beginContext key nn) n ≡ 1)

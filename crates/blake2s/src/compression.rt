@@ -131,7 +131,8 @@ fn round(m: &[u32; 16], s: [u8; 16], v: [u32; 16]) -> [u32; 16]
     step(m, s, 7, v7, 3, 4, 9, 14)
 }
 
-// The ten rounds. The table is copied once: it is read from the stack then, and not entry by entry from memory.
+// The ten rounds, with one call of round in a loop and the table copied once: written out, or with the table read inside
+// round, they took twice the time.
 fn rounds(v: [u32; 16], m: &[u32; 16]) -> [u32; 16]
     ensures { λ r. ⌜ r ≡ rounds (now (m .entry)) sigma v ⌝ }
 {

@@ -1,11 +1,14 @@
-// Writes the hashes and the answers of blake2s on set inputs. tests/vectors.py makes the same text with another implementation.
+// Writes what framing and blake2s answer on set inputs. tests/vectors.py makes the same text with code of its own.
 mod data;
+mod headers;
 mod known;
 mod print;
 mod refusals;
 mod selftest;
 
 fn main() {
+    headers::reads();
+    headers::writes();
     known::appendix_b();
     selftest::appendix_e();
     known::whole();
