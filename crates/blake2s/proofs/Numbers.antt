@@ -1,63 +1,83 @@
 -- The number of a call by the lengths that it is given.
 use mathlib.Core.Path.{_≡_, refl}
-use mathlib.Core.Bool.{Bool, true, false, cond, _&&_}
+use mathlib.Core.Bool.{Bool, true, false, cond, _&&_, _||_}
 use Prim.Native.Nat.{ℕ, _+_, _<_, _≤_}
 use native.Mathlib.Omega.{arith}
 use lib.Dec.{ltb, leb, eqb}
-use borrow.Author.Tests.{eq-eqb, ne-eqb, lt-ltb, le-ltb, ltb-true, ltb-false, leb-true, le-leb}
-use Rattle.blake2s.specs.Hash.{badSize, hashNumber}
-use Rattle.blake2s.specs.Stream.{beginNumber, inRange, updateNumber, finishNumber}
+use borrow.Author.Tests.{eq-eqb, ne-eqb, lt-ltb, le-ltb, ltb-true, ltb-false, eqb-false, leb-true, le-leb}
+use mathlib.Core.List.{[], _∷_}
+use denote.Enum.Declared.{tagOf}
+use types.Run.{OneOf, miss}
+use Rattle.blake2s.specs.Hash.{numberOf, hashNumber}
+use Rattle.blake2s.proofs.Answer.{the-type}
+use Rattle.blake2s.specs.declared.Answer.{Answer}
+use Rattle.blake2s.specs.declared.Answer.the-variants.{Accepted, ContextRange, OutputLength, KeyLength, MessageLength}
+use Rattle.blake2s.specs.Stream.{inRange, updateNumber, finishNumber}
 use Rattle.blake2s.specs.declared.Context.{Context}
 
-size-none : (nn : ℕ) → nn ≡ 0 → badSize nn ≡ true
-size-none nn e = simp (eq-eqb nn 0 e)
+module _ (kk ll nn : ℕ) where
+  pub hash-none : nn ≡ 0 → hashNumber kk ll nn ≡ 8
+  unfolding hashNumber
+  hash-none e = simp (eq-eqb nn 0 e)
 
-size-over : (nn : ℕ) → 32 < nn → badSize nn ≡ true
-size-over nn h = simp (ne-eqb nn 0 (λ e. omega arith), lt-ltb 32 nn h)
-
-size-good : (nn : ℕ) → 0 < nn → nn ≤ 32 → badSize nn ≡ false
-size-good nn p h = simp (ne-eqb nn 0 (λ e. omega arith), le-ltb 32 nn h)
-
-module _ (kk nn : ℕ) where
-  pub begin-none : nn ≡ 0 → beginNumber kk nn ≡ 8
-  unfolding beginNumber
-  begin-none e = rw (size-none nn e)
-
-  pub begin-over : 32 < nn → beginNumber kk nn ≡ 8
-  unfolding beginNumber
-  begin-over h = rw (size-over nn h)
-
-  module _ (p : 0 < nn) (h : nn ≤ 32) where
-    pub begin-key : 32 < kk → beginNumber kk nn ≡ 9
-    unfolding beginNumber
-    begin-key k = rw (size-good nn p h, lt-ltb 32 kk k)
-
-    pub begin-accepted : kk ≤ 32 → beginNumber kk nn ≡ 0
-    unfolding beginNumber
-    begin-accepted k = rw (size-good nn p h, le-ltb 32 kk k)
-
-  module _ (ll : ℕ) where
-    pub hash-none : nn ≡ 0 → hashNumber kk ll nn ≡ 8
-    unfolding hashNumber
-    hash-none e = rw (size-none nn e)
-
+  module _ (p : 0 < nn) where
     pub hash-over : 32 < nn → hashNumber kk ll nn ≡ 8
     unfolding hashNumber
-    hash-over h = rw (size-over nn h)
+    hash-over h = simp (ne-eqb nn 0 (λ e. omega arith), lt-ltb 32 nn h)
 
-    module _ (p : 0 < nn) (h : nn ≤ 32) where
+    module _ (h : nn ≤ 32) where
       pub hash-key : 32 < kk → hashNumber kk ll nn ≡ 9
       unfolding hashNumber
-      hash-key k = rw (size-good nn p h, lt-ltb 32 kk k)
+      hash-key k = simp (ne-eqb nn 0 (λ e. omega arith), le-ltb 32 nn h, lt-ltb 32 kk k)
 
       module _ (k : kk ≤ 32) where
         pub hash-message : 4294967295 < ll → hashNumber kk ll nn ≡ 10
         unfolding hashNumber
-        hash-message m = rw (size-good nn p h, le-ltb 32 kk k, lt-ltb 4294967295 ll m)
+        hash-message m = simp (ne-eqb nn 0 (λ e. omega arith), le-ltb 32 nn h, le-ltb 32 kk k, lt-ltb 4294967295 ll m)
 
         pub hash-accepted : ll ≤ 4294967295 → hashNumber kk ll nn ≡ 0
         unfolding hashNumber
-        hash-accepted m = rw (size-good nn p h, le-ltb 32 kk k, le-ltb 4294967295 ll m)
+        hash-accepted m = simp (ne-eqb nn 0 (λ e. omega arith), le-ltb 32 nn h, le-ltb 32 kk k, le-ltb 4294967295 ll m)
+
+-- an answer with another tag than the first is a refusal, and the answer of the first tag is none
+pub refused-tag : (a : Answer) → OneOf (1 ∷ 2 ∷ 3 ∷ 4 ∷ []) (tagOf the-type a) → numberOf a ≡ 0 → ⊥
+refused-tag Accepted t e = miss (1 ∷ 2 ∷ 3 ∷ 4 ∷ []) 0 tt t
+refused-tag ContextRange t e = omega arith
+refused-tag OutputLength t e = omega arith
+refused-tag KeyLength t e = omega arith
+refused-tag MessageLength t e = omega arith
+
+pub accepted-tag : (a : Answer) → OneOf (0 ∷ []) (tagOf the-type a) → numberOf a ≡ 0
+accepted-tag Accepted t = refl
+accepted-tag ContextRange t = absurd (omega arith)
+accepted-tag OutputLength t = absurd (omega arith)
+accepted-tag KeyLength t = absurd (omega arith)
+accepted-tag MessageLength t = absurd (omega arith)
+
+-- the lengths of a call that is accepted
+pub record Lengths (kk ll nn : ℕ) : Type 0 where
+  pub some : 0 < nn
+  pub small : nn ≤ 32
+  pub fits : kk ≤ 32
+  pub short : ll ≤ 4294967295
+
+pub accepted-lengths : (kk ll nn : ℕ) → hashNumber kk ll nn ≡ 0 → Lengths kk ll nn
+unfolding hashNumber
+accepted-lengths kk ll nn = go (eqb nn 0) (ltb 32 nn) (ltb 32 kk) (ltb 4294967295 ll) refl refl refl refl
+  where
+    go : (w x y z : Bool) → eqb nn 0 ≡ w → ltb 32 nn ≡ x → ltb 32 kk ≡ y → ltb 4294967295 ll ≡ z
+        → _≡_ {A = ℕ} (cond (w || x) 8 (cond y 9 (cond z 10 0))) 0 → Lengths kk ll nn
+    go false false false false o p q r e =
+        record {
+          some = omega (arith, eqb-false nn 0 o);
+          small = ltb-false 32 nn p;
+          fits = ltb-false 32 kk q;
+          short = ltb-false 4294967295 ll r;
+        }
+    go false false false true o p q r e = absurd (omega arith)
+    go false false true z o p q r e = absurd (omega arith)
+    go false true y z o p q r e = absurd (omega arith)
+    go true x y z o p q r e = absurd (omega arith)
 
 module _ (c : Context) where
   pub range-size : inRange c ≡ true → (0 < c .size) × (c .size ≤ 32)

@@ -1,13 +1,13 @@
 -- The theorems of specs/Theorems.antt.
 use mathlib.Core.Path.{_≡_, refl, ap, sym, _∙_}
-use mathlib.Core.Bool.{Bool, true, false, cond, _||_}
+use mathlib.Core.Bool.{true, cond}
 use mathlib.Core.List.{List, [], _∷_, _++_}
 use Prim.Native.Nat.{ℕ, suc, _+_, _-_, _*_, _/_, _^_, _<_, _≤_}
 use native.Mathlib.Omega.{arith}
-use lib.Dec.{ltb, eqb}
+use lib.Dec.{eqb}
 use lib.ListN.{length, getD, drop, length-append, length-drop}
 use lib.Seq.{getD-at, take-all}
-use borrow.Author.Tests.{ltb-false, eqb-false, ne-eqb}
+use borrow.Author.Tests.{ne-eqb}
 use Rattle.blake2s.specs.Rfc7693.{sigma, input, blockAt, blockCount, Compression, leading, compressions}
 use Rattle.blake2s.specs.Hash.{numberOf, hashNumber, hashOutput}
 use Rattle.blake2s.specs.Stream.{earlier, begun, extended, inRange, beginNumber, beginContext, updateNumber, updateContext, finishNumber, finishOutput, refusedContext}
@@ -19,7 +19,7 @@ use Rattle.blake2s.proofs.Lists.{length-each}
 use Rattle.blake2s.proofs.Orders.{order-length, order-once}
 use Rattle.blake2s.proofs.Vectors.{laid-out}
 use Rattle.blake2s.proofs.Blocks.{block-full}
-use Rattle.blake2s.proofs.Numbers.{hash-accepted, update-zero, update-accepted, finish-accepted, finish-not-one}
+use Rattle.blake2s.proofs.Numbers.{hash-accepted, Lengths, accepted-lengths, update-zero, update-accepted, finish-accepted, finish-not-one}
 use Rattle.blake2s.proofs.Streams.{length-input, blocks, calls, in-parts, stream-size, streamed}
 use Rattle.blake2s.proofs.Sessions.{begun-nil, at-range, runs}
 
@@ -95,21 +95,9 @@ hashing = record {
   number = same-number;
 }
 
--- what an accepted begin was given
-record Begun (key : List ℕ) (nn : ℕ) : Type 0 where
-  fits : length key ≤ 32
-  some : 0 < nn
-  small : nn ≤ 32
-
-accepted-begin : (key : List ℕ) (nn : ℕ) → beginNumber (length key) nn ≡ 0 → Begun key nn
+accepted-begin : (key : List ℕ) (nn : ℕ) → beginNumber (length key) nn ≡ 0 → Lengths (length key) 0 nn
 unfolding beginNumber
-accepted-begin key nn = go (eqb nn 0) (ltb 32 nn) (ltb 32 (length key)) refl refl refl
-  where
-    go : (x y z : Bool) → eqb nn 0 ≡ x → ltb 32 nn ≡ y → ltb 32 (length key) ≡ z → _≡_ {A = ℕ} (cond (x || y) 8 (cond z 9 0)) 0 → Begun key nn
-    go false false false p q r e = record { fits = ltb-false 32 (length key) r; some = omega (arith, eqb-false nn 0 p); small = ltb-false 32 nn q }
-    go false false true p q r e = absurd (omega arith)
-    go false true z p q r e = absurd (omega arith)
-    go true y z p q r e = absurd (omega arith)
+accepted-begin key nn e = accepted-lengths (length key) 0 nn e
 
 module _ (key : List ℕ) (nn : ℕ) (accepted : beginNumber (length key) nn ≡ 0) where
   begin-is : beginContext key nn ≡ extended (begun key nn) []
@@ -125,7 +113,7 @@ module _ (key : List ℕ) (nn : ℕ) (accepted : beginNumber (length key) nn ≡
       let r = runs key nn (b .fits) (b .some) (b .small) parts [] (omega arith) in
       let g : inRange c ≡ true = at-range key nn (b .fits) (b .some) (b .small) x in
       let f : finishNumber c nn ≡ 0 = finish-accepted c nn g (sym (stream-size key x nn (b .fits))) in
-      let k : hashNumber (length key) (length x) nn ≡ 0 = hash-accepted (length key) nn (length x) (b .some) (b .small) (b .fits) (r .short) in
+      let k : hashNumber (length key) (length x) nn ≡ 0 = hash-accepted (length key) (length x) nn (b .some) (b .small) (b .fits) (r .short) in
       rw (begin-is, r .last)
       record {
         range = g;

@@ -6,7 +6,7 @@ use mathlib.Core.List.{List, _++_}
 use lib.Dec.{eqb, ltb, leb}
 use lib.ListN.{length, take, replicate}
 use Rattle.blake2s.specs.Rfc7693.{bb, bytes, words, F, padded, blockAt, leading, compressed, initial}
-use Rattle.blake2s.specs.Hash.{badSize, tooLong, kept}
+use Rattle.blake2s.specs.Hash.{tooLong, kept, hashNumber}
 use Rattle.blake2s.specs.declared.Context.{Context}
 
 -- how many blocks of n bytes come before the final one
@@ -57,9 +57,9 @@ closed c = take (c .size) (bytes (F (c .h) (words (padded (waiting c))) (total c
 unfoldable pub inRange : Context → Bool
 inRange c = ltb 0 (c .size) && leb (c .size) 32
 
--- begin, with a key of kk bytes, for a hash of nn
+-- begin, with a key of kk bytes, for a hash of nn: as hashing an empty message in one call
 unfoldable pub beginNumber : ℕ → ℕ → ℕ
-beginNumber kk nn = cond (badSize nn) 8 (cond (ltb 32 kk) 9 0)
+beginNumber kk nn = hashNumber kk 0 nn
 
 -- what a refused begin hands back: a context out of range, so that no later call takes it
 unfoldable pub refusedContext : Context

@@ -41,21 +41,35 @@ pub struct Next {
     pub context: Context,
 }
 
+// Whether a hash of size bytes can be made with a key and a message of these lengths: the lowest refusal, or none.
+fn tested(key: usize, msg: usize, size: usize) -> Answer
+    ensures { λ r. ⌜ numberOf r ≡ hashNumber key msg size ⌝ }
+{
+    if size == 0 {
+        return Answer::OutputLength;
+    }
+    if 32 < size {
+        return Answer::OutputLength;
+    }
+    if 32 < key {
+        return Answer::KeyLength;
+    }
+    if 4294967295 < msg {
+        return Answer::MessageLength;
+    }
+    Answer::Accepted
+}
+
 // Begins a hash of size bytes, 1 to 32, with a key of up to 32 bytes, empty for none.
 pub fn begin(key: &[u8], size: usize) -> Next
     ensures { λ r. ⌜ (numberOf (r .answer) ≡ beginNumber (length (now (key .entry))) size) × (r .context ≡ beginContext (now (key .entry)) size) ⌝ }
 {
-    if size == 0 {
-        return refused_begin(Answer::OutputLength);
-    }
-    if 32 < size {
-        return refused_begin(Answer::OutputLength);
-    }
-    if 32 < key.len() {
-        return refused_begin(Answer::KeyLength);
-    }
+    let answer = tested(key.len(), 0, size);
+    let Answer::Accepted = answer else {
+        return refused_begin(answer);
+    };
     Next {
-        answer: Answer::Accepted,
+        answer: answer,
         context: stream::begun(key, size),
     }
 }
@@ -119,21 +133,13 @@ pub fn hash(key: &[u8], msg: &[u8], out: &mut [u8]) -> Answer
     ensures { λ r. ⌜ (numberOf r ≡ hashNumber (length (now (key .entry))) (length (now (msg .entry))) (length (now (out .entry)))) × (now (out .exit) ≡ hashOutput (now (key .entry)) (now (msg .entry)) (now (out .entry))) ⌝ }
 {
     let size = out.len();
-    if size == 0 {
-        return Answer::OutputLength;
-    }
-    if 32 < size {
-        return Answer::OutputLength;
-    }
-    if 32 < key.len() {
-        return Answer::KeyLength;
-    }
-    if 4294967295 < msg.len() {
-        return Answer::MessageLength;
-    }
+    let answer = tested(key.len(), msg.len(), size);
+    let Answer::Accepted = answer else {
+        return answer;
+    };
     let c = stream::extended(stream::begun(key, size), msg);
     stream::closed(c, out);
-    Answer::Accepted
+    answer
 }
 
 // The number that document 01 gives an answer; 0 where the call is accepted.
@@ -149,7 +155,7 @@ pub fn number(a: Answer) -> u32
     }
 }
 
-// hash for C and Rust: include/blake2s.h.
+// hash, for C: include/mastfrap_blake2s.h.
 #[no_mangle]
 pub extern "C" fn mastfrap_blake2s(key: &[u8], msg: &[u8], out: &mut [u8]) -> u32
     ensures { λ r. ⌜ (r ≡ hashNumber (length (now (key .entry))) (length (now (msg .entry))) (length (now (out .entry)))) × (now (out .exit) ≡ hashOutput (now (key .entry)) (now (msg .entry)) (now (out .entry))) ⌝ }

@@ -1,49 +1,46 @@
--- Each return has the number that the tests on the way to it leave, and the context of that number.
-use native.Mathlib.Omega.{arith}
+-- An accepted begin has lengths in range; a refused one has the context that is refused later.
+use mathlib.Core.Path.{_≡_, sym, _∙_, ap}
 use lib.ListN.{length}
-use Rattle.blake2s.specs.Stream.{beginContext}
-use Rattle.blake2s.proofs.Numbers.{begin-none, begin-over, begin-key, begin-accepted}
+use borrow.Author.Tests.{ne-eqb}
+use Rattle.blake2s.specs.Hash.{numberOf, hashNumber}
+use Rattle.blake2s.specs.Stream.{beginNumber, beginContext}
+use Rattle.blake2s.proofs.Numbers.{refused-tag, accepted-tag, accepted-lengths}
 use borrow.Author.Needs.{needs}
 use Rattle.blake2s.proofs.begin.Statement.{statement}
 use Rattle.blake2s.proofs.begin.Tie as tie
 
 returns : tie.Need-returns
-unfolding beginContext
+unfolding beginNumber beginContext
 returns c =
-    let a = c .before .before .before .args in
-    let e = begin-none (length (a .key .now)) (a .size) (omega arith) in
-    (rw (c .refused-begin .ensures .0, e), rw (c .refused-begin .ensures .1, e))
+    let r = c .refused-begin .ensures in
+    let t = c .before .before in
+    let a = t .before .before .args in
+    let z : hashNumber (length (a .key .now)) 0 (a .size) ≡ 0 → ⊥ = λ e. refused-tag (t .tested .result) (c .before .match .keys2) (t .tested .ensures ∙ e) in
+    (ap numberOf (r .0) ∙ t .tested .ensures, rw (ne-eqb (hashNumber (length (a .key .now)) 0 (a .size)) 0 z) (r .1))
+
+begun-requires : tie.Need-begun-requires
+begun-requires c κs =
+    let t = c .before .before in
+    let a = t .before .before .args in
+    let l = accepted-lengths (length (a .key .now)) 0 (a .size) (sym (t .tested .ensures) ∙ accepted-tag (t .tested .result) (c .before .match .keys1)) in
+    (l .fits, l .small)
 
 returns-2 : tie.Need-returns-2
-unfolding beginContext
+unfolding beginNumber beginContext
 returns-2 c =
-    let a = c .before .before .before .before .args in
-    let e = begin-over (length (a .key .now)) (a .size) (omega arith) in
-    (rw (c .refused-begin2 .ensures .0, e), rw (c .refused-begin2 .ensures .1, e))
-
-returns-3 : tie.Need-returns-3
-unfolding beginContext
-returns-3 c =
-    let a = c .before .before .before .before .before .args in
-    let e = begin-key (length (a .key .now)) (a .size) (omega arith) (omega arith) (omega arith) in
-    (rw (c .refused-begin3 .ensures .0, e), rw (c .refused-begin3 .ensures .1, e))
-
-returns-4 : tie.Need-returns-4
-unfolding beginContext
-returns-4 c =
-    let a = c .before .before .before .before .before .args in
-    let e = begin-accepted (length (a .key .now)) (a .size) (omega arith) (omega arith) (omega arith) in
-    (rw e, rw (c .begun .ensures, e))
+    let m = c .before .before in
+    let t = m .before in
+    let a = t .before .before .args in
+    let e : hashNumber (length (a .key .now)) 0 (a .size) ≡ 0 = sym (t .tested .ensures) ∙ accepted-tag (t .tested .result) (m .match .keys1) in
+    (t .tested .ensures, rw (c .begun .ensures, e))
 
 pub begin-spec : {M : Type 1} → statement M
 begin-spec =
     tie.close
     (tie.spec
     (λ c κs. search needs)
+    (λ c. search needs)
+    (λ c κs. search needs)
     returns
-    (λ c κs. search needs)
-    returns-2
-    (λ c κs. search needs)
-    returns-3
-    (λ c κs. search needs)
-    returns-4)
+    begun-requires
+    returns-2)

@@ -1,78 +1,84 @@
--- Each return has the number that the tests on the way to it leave, and the output of that number; `streamed` says that the message as one part
--- gives the hash.
-use Prim.Native.Nat.{_≤_}
+-- An accepted call has lengths in range, and `streamed` says that the message as one part gives the hash; a refused one leaves the output.
+use mathlib.Core.Path.{_≡_, sym, _∙_}
+use Prim.Native.Nat.{ℕ}
 use native.Mathlib.Omega.{arith}
 use lib.ListN.{length}
-use Rattle.blake2s.specs.Hash.{hashOutput}
+use borrow.Author.Tests.{ne-eqb}
+use Rattle.blake2s.specs.Hash.{hashNumber, hashOutput}
 use Rattle.blake2s.specs.Stream.{begun}
-use Rattle.blake2s.proofs.Numbers.{hash-none, hash-over, hash-key, hash-message, hash-accepted}
+use Rattle.blake2s.proofs.Numbers.{refused-tag, accepted-tag, Lengths, accepted-lengths}
 use Rattle.blake2s.proofs.Streams.{stream-size, streamed}
-use Rattle.blake2s.proofs.Streams.{streamed}
 use borrow.Author.Needs.{needs}
 use Rattle.blake2s.proofs.hash.Statement.{statement}
 use Rattle.blake2s.proofs.hash.Tie as tie
 
+-- past the test, the number is 0 and the lengths are in range
+module _ (m : tie.At-match-keys1) where
+  abbrev kk : ℕ
+  kk = length (m .before .before .before .before .before .args .key .now)
+
+  abbrev ll : ℕ
+  ll = length (m .before .before .before .before .before .args .msg .now)
+
+  abbrev nn : ℕ
+  nn = length (m .before .before .before .before .before .args .out .now)
+
+  number : hashNumber kk ll nn ≡ 0
+  number = sym (m .before .tested .ensures) ∙ accepted-tag (m .before .tested .result) (m .match .keys1)
+
+  lengths : Lengths kk ll nn
+  lengths = accepted-lengths kk ll nn number
+
 returns : tie.Need-returns
 unfolding hashOutput
 returns c =
-    let a = c .before .before .before .before .args in
-    let e = hash-none (length (a .key .now)) (length (a .out .now)) (length (a .msg .now)) (omega arith) in
-    (rw e, rw e)
+    let t = c .before in
+    let a = t .before .before .before .before .args in
+    let n = hashNumber (length (a .key .now)) (length (a .msg .now)) (length (a .out .now)) in
+    let z : n ≡ 0 → ⊥ = λ e. refused-tag (t .tested .result) (c .match .keys2) (t .tested .ensures ∙ e) in
+    (t .tested .ensures, rw (ne-eqb n 0 z))
 
-returns-2 : tie.Need-returns-2
-unfolding hashOutput
-returns-2 c =
-    let a = c .before .before .before .before .before .args in
-    let e = hash-over (length (a .key .now)) (length (a .out .now)) (length (a .msg .now)) (omega arith) in
-    (rw e, rw e)
-
-returns-3 : tie.Need-returns-3
-unfolding hashOutput
-returns-3 c =
-    let a = c .before .before .before .before .before .before .args in
-    let e = hash-key (length (a .key .now)) (length (a .out .now)) (length (a .msg .now)) (omega arith) (omega arith) (omega arith) in
-    (rw e, rw e)
-
-returns-4 : tie.Need-returns-4
-unfolding hashOutput
-returns-4 c =
-    let a = c .before .before .before .before .before .before .before .args in
-    let e = hash-message (length (a .key .now)) (length (a .out .now)) (length (a .msg .now)) (omega arith) (omega arith) (omega arith) (omega arith) in
-    (rw e, rw e)
+begun-requires : tie.Need-begun-requires
+begun-requires c κs =
+    let l = lengths (c .before) in
+    (l .fits, l .small)
 
 extended-requires : tie.Need-extended-requires
 unfolding begun
-extended-requires c κs = rw (c .begun .ensures) (omega arith)
+extended-requires c κs =
+    let l = lengths (c .before .before) in
+    rw (c .begun .ensures) (omega arith)
 
 closed-requires : tie.Need-closed-requires
 closed-requires c κs =
     let x = c .before in
     let b = x .before in
-    let a = b .before .before .before .before .before .before .before .before .args in
-    let k : length (a .key .now) ≤ 32 = omega arith in
-    rw (x .extended .ensures, b .begun .ensures, stream-size (a .key .now) (a .msg .now) (length (a .out .now)) k) (omega arith)
+    let m = b .before .before in
+    let l = lengths m in
+    let a = m .before .before .before .before .before .args in
+    rw (x .extended .ensures, b .begun .ensures, stream-size (a .key .now) (a .msg .now) (length (a .out .now)) (l .fits)) (omega arith)
 
-returns-5 : tie.Need-returns-5
+returns-2 : tie.Need-returns-2
 unfolding hashOutput
-returns-5 c =
+returns-2 c =
     let d = c .before .before in
     let x = d .before .before in
     let b = x .before in
-    let a = b .before .before .before .before .before .before .before .before .args in
-    let k : length (a .key .now) ≤ 32 = omega arith in
-    let e = hash-accepted (length (a .key .now)) (length (a .out .now)) (length (a .msg .now)) (omega arith) (omega arith) k (omega arith) in
-    (rw e, rw (d .closed .ensures, x .extended .ensures, b .begun .ensures, e) (streamed (a .key .now) (a .msg .now) (length (a .out .now)) k))
+    let m = b .before .before in
+    let l = lengths m in
+    let a = m .before .before .before .before .before .args in
+    let e : hashNumber (length (a .key .now)) (length (a .msg .now)) (length (a .out .now)) ≡ 0 = number m in
+    (m .before .tested .ensures, rw (d .closed .ensures, x .extended .ensures, b .begun .ensures, e) (streamed (a .key .now) (a .msg .now) (length (a .out .now)) (l .fits)))
 
 pub hash-spec : {M : Type 1} → statement M
 hash-spec =
     tie.close
     (tie.spec
-    returns
-    returns-2
-    returns-3
-    returns-4
     (λ c κs. search needs)
+    (λ c. search needs)
+    returns
+    begun-requires
     extended-requires
     closed-requires
     (λ c. search needs)
-    returns-5)
+    returns-2)

@@ -7,8 +7,6 @@ use lib.Seq.{length-take-le}
 use Rattle.blake2s.specs.Stream.{earlier}
 use Rattle.blake2s.proofs.Lists.{drop-whole}
 use Rattle.blake2s.proofs.Contexts.{total-bound, extended-long}
-use lib.ListN.{length, drop, length-take}
-use Rattle.blake2s.proofs.Contexts.{extended-long}
 use borrow.Author.Needs.{needs}
 use Rattle.blake2s.proofs.stream.extended_long.Statement.{statement}
 use Rattle.blake2s.proofs.stream.extended_long.Tie as tie

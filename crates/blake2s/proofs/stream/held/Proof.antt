@@ -5,8 +5,6 @@ use native.Mathlib.Omega.{arith}
 use lib.ListN.{length, length-take}
 use lib.Seq.{length-take-le}
 use Rattle.blake2s.specs.Stream.{total, done, waiting}
-use mathlib.Core.Path.{_≡_}
-use Rattle.blake2s.specs.Stream.{waiting}
 use borrow.Author.Needs.{needs}
 use Rattle.blake2s.proofs.stream.held.Statement.{statement}
 use Rattle.blake2s.proofs.stream.held.Tie as tie
