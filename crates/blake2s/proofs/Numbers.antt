@@ -1,10 +1,10 @@
 -- The number of a call by the lengths that it is given.
 use mathlib.Core.Path.{_≡_, refl}
-use mathlib.Core.Bool.{Bool, true, false, cond, _&&_, _||_}
+use mathlib.Core.Bool.{Bool, true, false, cond, not, _||_}
 use Prim.Native.Nat.{ℕ, _+_, _<_, _≤_}
 use native.Mathlib.Omega.{arith}
-use lib.Dec.{ltb, leb, eqb}
-use borrow.Author.Tests.{eq-eqb, ne-eqb, lt-ltb, le-ltb, ltb-true, ltb-false, eqb-false, leb-true, le-leb}
+use lib.Dec.{ltb, eqb}
+use borrow.Author.Tests.{eq-eqb, ne-eqb, lt-ltb, le-ltb, ltb-false, eqb-false}
 use mathlib.Core.List.{[], _∷_}
 use denote.Enum.Declared.{tagOf}
 use types.Run.{OneOf, miss}
@@ -82,16 +82,16 @@ accepted-lengths kk ll nn = go (eqb nn 0) (ltb 32 nn) (ltb 32 kk) (ltb 429496729
 module _ (c : Context) where
   pub range-size : inRange c ≡ true → (0 < c .size) × (c .size ≤ 32)
   unfolding inRange
-  range-size e = go (ltb 0 (c .size)) (leb (c .size) 32) refl refl e
+  range-size e = go (eqb (c .size) 0) (ltb 32 (c .size)) refl refl e
     where
-      go : (x y : Bool) → ltb 0 (c .size) ≡ x → leb (c .size) 32 ≡ y → x && y ≡ true → (0 < c .size) × (c .size ≤ 32)
-      go true true p q r = (ltb-true 0 (c .size) p, leb-true (c .size) 32 q)
-      go true false p q r = absurd (let z : _≡_ {A = ℕ} 0 1 = cc in omega arith)
-      go false y p q r = absurd (let z : _≡_ {A = ℕ} 0 1 = cc in omega arith)
+      go : (x y : Bool) → eqb (c .size) 0 ≡ x → ltb 32 (c .size) ≡ y → not (x || y) ≡ true → (0 < c .size) × (c .size ≤ 32)
+      go false false p q r = (omega (arith, eqb-false (c .size) 0 p), ltb-false 32 (c .size) q)
+      go false true p q r = absurd (let z : _≡_ {A = ℕ} 0 1 = cc in omega arith)
+      go true y p q r = absurd (let z : _≡_ {A = ℕ} 0 1 = cc in omega arith)
 
   pub size-range : 0 < c .size → c .size ≤ 32 → inRange c ≡ true
   unfolding inRange
-  size-range p h = rw (lt-ltb 0 (c .size) p, le-leb (c .size) 32 h)
+  size-range p h = simp (ne-eqb (c .size) 0 (λ e. omega arith), le-ltb 32 (c .size) h)
 
   module _ (n : ℕ) where
     pub update-range : inRange c ≡ false → updateNumber c n ≡ 1

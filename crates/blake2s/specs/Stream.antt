@@ -1,12 +1,12 @@
 -- Hashing in parts. The calls of F are those of RFC 7693, 3.3, each made as soon as a byte has come that stands behind its block:
 -- a block is final until then, so a full one waits.
 use Prim.Native.Nat.{ℕ, _+_, _-_, _*_, _/_}
-use mathlib.Core.Bool.{Bool, true, false, cond, _&&_, not}
+use mathlib.Core.Bool.{Bool, true, false, cond, not}
 use mathlib.Core.List.{List, _++_}
-use lib.Dec.{eqb, ltb, leb}
+use lib.Dec.{eqb}
 use lib.ListN.{length, take, replicate}
 use Rattle.blake2s.specs.Rfc7693.{bb, bytes, words, F, padded, blockAt, leading, compressed, initial}
-use Rattle.blake2s.specs.Hash.{tooLong, kept, hashNumber}
+use Rattle.blake2s.specs.Hash.{badSize, tooLong, kept, hashNumber}
 use Rattle.blake2s.specs.declared.Context.{Context}
 
 -- how many blocks of n bytes come before the final one
@@ -53,9 +53,9 @@ extended c s =
 unfoldable pub closed : Context → List ℕ
 closed c = take (c .size) (bytes (F (c .h) (words (padded (waiting c))) (total c) true))
 
--- the range of a context's fields; every other field may hold anything
+-- the range of a context's fields: its size is that of a hash, and every other field may hold anything
 unfoldable pub inRange : Context → Bool
-inRange c = ltb 0 (c .size) && leb (c .size) 32
+inRange c = not (badSize (c .size))
 
 -- begin, with a key of kk bytes, for a hash of nn: as hashing an empty message in one call
 unfoldable pub beginNumber : ℕ → ℕ → ℕ

@@ -15,7 +15,10 @@ pub fn in_range(c: Context) -> bool
     if c.size == 0 {
         return false;
     }
-    c.size <= 32
+    if 32 < c.size {
+        return false;
+    }
+    true
 }
 
 // The first state, with the lengths of the key and of the hash in it.
