@@ -8,7 +8,7 @@ use lib.Dec.{eqb}
 use lib.ListN.{length, getD, drop, length-append, length-drop}
 use lib.Seq.{getD-at, take-all}
 use borrow.Author.Tests.{ne-eqb}
-use Rattle.blake2s.specs.Rfc7693.{each, rotr, word, words, bytes, iv, sigma, added, turned, G, workVector, round, rounds, F, padded, input, blockAt, blockCount, Compression, leading, compressions, compressed, initial, blake2s}
+use Rattle.blake2s.specs.Rfc7693.{each, rotr, word, words, bytes, iv, sigma, added, xorRotated, G, workVector, round, rounds, F, padded, input, blockAt, blockCount, Compression, leading, compressions, compressed, initial, blake2s}
 use Rattle.blake2s.specs.Hash.{numberOf, hashNumber, hashOutput}
 use Rattle.blake2s.specs.Stream.{earlier, begun, extended, inRange, beginNumber, beginContext, updateNumber, updateContext, finishNumber, finishOutput, refusedContext}
 use Rattle.blake2s.specs.Theorems.{Hashing, Streamed, Streaming, run, numbers, joined}
@@ -70,7 +70,7 @@ abc : blake2s [] (97 ∷ 98 ∷ 99 ∷ []) 32 ≡
     0xe1 ∷ 0xa7 ∷ 0x2b ∷ 0xa3 ∷ 0x4e ∷ 0xeb ∷ 0x45 ∷ 0x2f ∷
     0x37 ∷ 0x45 ∷ 0x8b ∷ 0x20 ∷ 0x9e ∷ 0xd6 ∷ 0x3a ∷ 0x29 ∷
     0x4d ∷ 0x99 ∷ 0x9b ∷ 0x4c ∷ 0x86 ∷ 0x67 ∷ 0x59 ∷ 0x82 ∷ []
-unfolding rotr word words bytes iv sigma added turned G workVector round rounds F padded input blockAt blockCount leading compressions compressed initial blake2s
+unfolding rotr word words bytes iv sigma added xorRotated G workVector round rounds F padded input blockAt blockCount leading compressions compressed initial blake2s
 abc = refl
 
 keyed-empty : blake2s (each 32 (λ i. i)) [] 32 ≡
@@ -78,7 +78,7 @@ keyed-empty : blake2s (each 32 (λ i. i)) [] 32 ≡
     0x3d ∷ 0x79 ∷ 0xc0 ∷ 0xd9 ∷ 0x23 ∷ 0x25 ∷ 0xad ∷ 0x3b ∷
     0x89 ∷ 0xcb ∷ 0xb7 ∷ 0x54 ∷ 0xd8 ∷ 0x6a ∷ 0xb7 ∷ 0x1a ∷
     0xee ∷ 0x04 ∷ 0x7a ∷ 0xd3 ∷ 0x45 ∷ 0xfd ∷ 0x2c ∷ 0x49 ∷ []
-unfolding rotr word words bytes iv sigma added turned G workVector round rounds F padded input blockAt blockCount leading compressions compressed initial blake2s
+unfolding rotr word words bytes iv sigma added xorRotated G workVector round rounds F padded input blockAt blockCount leading compressions compressed initial blake2s
 keyed-empty = refl
 
 -- the answer of a number

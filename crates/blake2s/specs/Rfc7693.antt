@@ -83,20 +83,20 @@ unfoldable pub added : List ℕ → ℕ → ℕ → ℕ → List ℕ
 added v a b x = set v a ((getD v a 0 + getD v b 0 + x) % 2 ^ w)
 
 -- 3.1: v[d] := (v[d] ^ v[a]) >>> r
-unfoldable pub turned : List ℕ → ℕ → ℕ → ℕ → List ℕ
-turned v d a r = set v d (rotr (bitXor (getD v d 0) (getD v a 0)) r)
+unfoldable pub xorRotated : List ℕ → ℕ → ℕ → ℕ → List ℕ
+xorRotated v d a r = set v d (rotr (bitXor (getD v d 0) (getD v a 0)) r)
 
 -- 3.1: the mixing function G
 unfoldable pub G : List ℕ → ℕ → ℕ → ℕ → ℕ → ℕ → ℕ → List ℕ
 G v a b c d x y =
     let v1 = added v a b x in
-    let v2 = turned v1 d a R1 in
+    let v2 = xorRotated v1 d a R1 in
     let v3 = added v2 c d 0 in
-    let v4 = turned v3 b c R2 in
+    let v4 = xorRotated v3 b c R2 in
     let v5 = added v4 a b y in
-    let v6 = turned v5 d a R3 in
+    let v6 = xorRotated v5 d a R3 in
     let v7 = added v6 c d 0 in
-    turned v7 b c R4
+    xorRotated v7 b c R4
 
 -- 3.2: the local work vector of the state h, the offset counter t and the flag f of the last block
 unfoldable pub workVector : List ℕ → ℕ → Bool → List ℕ

@@ -5,7 +5,7 @@ ghost use Prim.Native.Nat.{_+_, _*_, _%_, _^_, _<_, _≤_};
 ghost use mathlib.Core.Bool.{cond};
 ghost use lib.ListN.{getD, length};
 ghost use lib.Bits.{bitXor};
-ghost use Rattle.blake2s.specs.Rfc7693.{sigma, rotr, added, turned, G, selected, round, rounds, word, words, workVector, F};
+ghost use Rattle.blake2s.specs.Rfc7693.{sigma, rotr, added, xorRotated, G, selected, round, rounds, word, words, workVector, F};
 ghost use Rattle.blake2s.specs.Steps.{Order};
 
 // RFC 7693, 2.6.
@@ -60,9 +60,9 @@ fn add(v: [u32; 16], a: usize, b: usize, x: u32) -> [u32; 16]
 }
 
 // v[d] := (v[d] ^ v[a]) >>> n.
-fn turn(v: [u32; 16], d: usize, a: usize, n: u32) -> [u32; 16]
+fn xor_rotate(v: [u32; 16], d: usize, a: usize, n: u32) -> [u32; 16]
     requires { ⌜ (d < 16) × (a < 16) × (0 < n) × (n < 32) ⌝ }
-    ensures { λ r. ⌜ r ≡ turned v d a n ⌝ }
+    ensures { λ r. ⌜ r ≡ xorRotated v d a n ⌝ }
 {
     let mut w = v;
     w[d] = rotate_right(w[d] ^ w[a], n);
@@ -75,13 +75,13 @@ fn mix(v: [u32; 16], a: usize, b: usize, c: usize, d: usize, x: u32, y: u32) -> 
     ensures { λ r. ⌜ r ≡ G v a b c d x y ⌝ }
 {
     let v1 = add(v, a, b, x);
-    let v2 = turn(v1, d, a, 16);
+    let v2 = xor_rotate(v1, d, a, 16);
     let v3 = add(v2, c, d, 0);
-    let v4 = turn(v3, b, c, 12);
+    let v4 = xor_rotate(v3, b, c, 12);
     let v5 = add(v4, a, b, y);
-    let v6 = turn(v5, d, a, 8);
+    let v6 = xor_rotate(v5, d, a, 8);
     let v7 = add(v6, c, d, 0);
-    turn(v7, b, c, 7)
+    xor_rotate(v7, b, c, 7)
 }
 
 fn word_at(m: &[u32; 16], i: u8) -> u32

@@ -42,7 +42,7 @@ pub struct Next {
 }
 
 // Whether a hash of size bytes can be made with a key and a message of these lengths: the lowest refusal, or none.
-fn tested(key: usize, msg: usize, size: usize) -> Answer
+fn check_lengths(key: usize, msg: usize, size: usize) -> Answer
     ensures { λ r. ⌜ numberOf r ≡ hashNumber key msg size ⌝ }
 {
     if size == 0 {
@@ -64,7 +64,7 @@ fn tested(key: usize, msg: usize, size: usize) -> Answer
 pub fn begin(key: &[u8], size: usize) -> Next
     ensures { λ r. ⌜ (numberOf (r .answer) ≡ beginNumber (length (now (key .entry))) size) × (r .context ≡ beginContext (now (key .entry)) size) ⌝ }
 {
-    let answer = tested(key.len(), 0, size);
+    let answer = check_lengths(key.len(), 0, size);
     let Answer::Accepted = answer else {
         return refused_begin(answer);
     };
@@ -133,7 +133,7 @@ pub fn hash(key: &[u8], msg: &[u8], out: &mut [u8]) -> Answer
     ensures { λ r. ⌜ (numberOf r ≡ hashNumber (length (now (key .entry))) (length (now (msg .entry))) (length (now (out .entry)))) × (now (out .exit) ≡ hashOutput (now (key .entry)) (now (msg .entry)) (now (out .entry))) ⌝ }
 {
     let size = out.len();
-    let answer = tested(key.len(), msg.len(), size);
+    let answer = check_lengths(key.len(), msg.len(), size);
     let Answer::Accepted = answer else {
         return answer;
     };

@@ -91,7 +91,7 @@ fn fill(c: Context) -> usize
 }
 
 // The block that waits, filled up with zeros.
-fn held(c: Context) -> [u8; 64]
+fn waiting_block(c: Context) -> [u8; 64]
     ensures { λ r. ⌜ r ≡ padded (waiting c) ⌝ }
 {
     let block = c.block;
@@ -137,7 +137,7 @@ fn extended_short(c: Context, s: &[u8]) -> Context
 {
     let h = c.h;
     let n = fill(c);
-    let block = append(held(c), n, s);
+    let block = append(waiting_block(c), n, s);
     Context {
         h: h,
         block: block,
@@ -155,7 +155,7 @@ fn extended_long(c: Context, s: &[u8]) -> Context
     let h = c.h;
     let n = fill(c);
     let room = 64 - n;
-    let block = append(held(c), n, &s[..room]);
+    let block = append(waiting_block(c), n, &s[..room]);
     let t = bytes_in(c) + (room as u64);
     let next = compress(h, &block, t, false);
     let rest = &s[room..];
@@ -216,7 +216,7 @@ pub fn closed(c: Context, out: &mut [u8])
     ensures { λ _. ⌜ now (out .exit) ≡ closed c ⌝ }
 {
     let h = c.h;
-    let last = held(c);
+    let last = waiting_block(c);
     let end = compress(h, &last, bytes_in(c), true);
     write_bytes(&end, out);
 }

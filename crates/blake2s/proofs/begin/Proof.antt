@@ -15,14 +15,14 @@ returns c =
     let r = c .refused-begin .ensures in
     let t = c .before .before in
     let a = t .before .before .args in
-    let z : hashNumber (length (a .key .now)) 0 (a .size) ≡ 0 → ⊥ = λ e. refused-tag (t .tested .result) (c .before .match .keys2) (t .tested .ensures ∙ e) in
-    (ap numberOf (r .0) ∙ t .tested .ensures, rw (ne-eqb (hashNumber (length (a .key .now)) 0 (a .size)) 0 z) (r .1))
+    let z : hashNumber (length (a .key .now)) 0 (a .size) ≡ 0 → ⊥ = λ e. refused-tag (t .check-lengths .result) (c .before .match .keys2) (t .check-lengths .ensures ∙ e) in
+    (ap numberOf (r .0) ∙ t .check-lengths .ensures, rw (ne-eqb (hashNumber (length (a .key .now)) 0 (a .size)) 0 z) (r .1))
 
 begun-requires : tie.Need-begun-requires
 begun-requires c κs =
     let t = c .before .before in
     let a = t .before .before .args in
-    let l = accepted-lengths (length (a .key .now)) 0 (a .size) (sym (t .tested .ensures) ∙ accepted-tag (t .tested .result) (c .before .match .keys1)) in
+    let l = accepted-lengths (length (a .key .now)) 0 (a .size) (sym (t .check-lengths .ensures) ∙ accepted-tag (t .check-lengths .result) (c .before .match .keys1)) in
     (l .fits, l .small)
 
 returns-2 : tie.Need-returns-2
@@ -31,8 +31,8 @@ returns-2 c =
     let m = c .before .before in
     let t = m .before in
     let a = t .before .before .args in
-    let e : hashNumber (length (a .key .now)) 0 (a .size) ≡ 0 = sym (t .tested .ensures) ∙ accepted-tag (t .tested .result) (m .match .keys1) in
-    (t .tested .ensures, rw (c .begun .ensures, e))
+    let e : hashNumber (length (a .key .now)) 0 (a .size) ≡ 0 = sym (t .check-lengths .ensures) ∙ accepted-tag (t .check-lengths .result) (m .match .keys1) in
+    (t .check-lengths .ensures, rw (c .begun .ensures, e))
 
 pub begin-spec : {M : Type 1} → statement M
 begin-spec =

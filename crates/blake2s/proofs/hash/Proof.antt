@@ -24,7 +24,7 @@ module _ (m : tie.At-match-keys1) where
   nn = length (m .before .before .before .before .before .args .out .now)
 
   number : hashNumber kk ll nn ≡ 0
-  number = sym (m .before .tested .ensures) ∙ accepted-tag (m .before .tested .result) (m .match .keys1)
+  number = sym (m .before .check-lengths .ensures) ∙ accepted-tag (m .before .check-lengths .result) (m .match .keys1)
 
   lengths : Lengths kk ll nn
   lengths = accepted-lengths kk ll nn number
@@ -35,8 +35,8 @@ returns c =
     let t = c .before in
     let a = t .before .before .before .before .args in
     let n = hashNumber (length (a .key .now)) (length (a .msg .now)) (length (a .out .now)) in
-    let z : n ≡ 0 → ⊥ = λ e. refused-tag (t .tested .result) (c .match .keys2) (t .tested .ensures ∙ e) in
-    (t .tested .ensures, rw (ne-eqb n 0 z))
+    let z : n ≡ 0 → ⊥ = λ e. refused-tag (t .check-lengths .result) (c .match .keys2) (t .check-lengths .ensures ∙ e) in
+    (t .check-lengths .ensures, rw (ne-eqb n 0 z))
 
 begun-requires : tie.Need-begun-requires
 begun-requires c κs =
@@ -68,7 +68,7 @@ returns-2 c =
     let l = lengths m in
     let a = m .before .before .before .before .before .args in
     let e : hashNumber (length (a .key .now)) (length (a .msg .now)) (length (a .out .now)) ≡ 0 = number m in
-    (m .before .tested .ensures, rw (d .closed .ensures, x .extended .ensures, b .begun .ensures, e) (streamed (a .key .now) (a .msg .now) (length (a .out .now)) (l .fits)))
+    (m .before .check-lengths .ensures, rw (d .closed .ensures, x .extended .ensures, b .begun .ensures, e) (streamed (a .key .now) (a .msg .now) (length (a .out .now)) (l .fits)))
 
 pub hash-spec : {M : Type 1} → statement M
 hash-spec =

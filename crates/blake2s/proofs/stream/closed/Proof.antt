@@ -10,7 +10,7 @@ returns c =
     let w = c .before .before in
     let k = w .before .before .before in
     let h = k .before .before .before in
-    rw (w .write-bytes .ensures, k .compress .ensures, k .before .bytes-in .ensures, h .held .ensures, h .before .before .before .pre .0)
+    rw (w .write-bytes .ensures, k .compress .ensures, k .before .bytes-in .ensures, h .waiting-block .ensures, h .before .before .before .pre .0)
 
 pub closed-spec : {M : Type 1} → statement M
 closed-spec =

@@ -57,7 +57,7 @@ returns c =
       w .whole-blocks .ensures,
       k .compress .ensures,
       u .append .ensures,
-      h .held .ensures,
+      h .waiting-block .ensures,
       b .bytes-in .ensures,
       q .before-final .ensures .0,
       drop-whole room (a .s .now),

@@ -1,4 +1,4 @@
--- The law `extended-short`, with what `fill`, `held` and `append` ensure.
+-- The law `extended-short`, with what `fill`, `waiting_block` and `append` ensure.
 use mathlib.Core.Path.{_≡_}
 use native.Mathlib.Omega.{arith}
 use lib.ListN.{length}
@@ -18,7 +18,7 @@ returns c =
     let z = f .before .before .before in
     let a = z .args in
     let l = block-length z in
-    rw (b .append .ensures, b .before .held .ensures)
+    rw (b .append .ensures, b .before .waiting-block .ensures)
     (extended-short (a .c) l (a .s .now) (f .fill .result) (f .fill .ensures .0) (omega arith))
 
 pub extended-short-spec : {M : Type 1} → statement M

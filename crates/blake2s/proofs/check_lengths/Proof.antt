@@ -2,8 +2,8 @@
 use mathlib.Core.Path.{sym}
 use native.Mathlib.Omega.{arith}
 use Rattle.blake2s.proofs.Numbers.{hash-none, hash-over, hash-key, hash-message, hash-accepted}
-use Rattle.blake2s.proofs.tested.Statement.{statement}
-use Rattle.blake2s.proofs.tested.Tie as tie
+use Rattle.blake2s.proofs.check_lengths.Statement.{statement}
+use Rattle.blake2s.proofs.check_lengths.Tie as tie
 
 returns : tie.Need-returns
 returns c = sym (hash-none _ _ _ (omega arith))
@@ -20,8 +20,8 @@ returns-4 c = sym (hash-message _ _ _ (omega arith) (omega arith) (omega arith) 
 returns-5 : tie.Need-returns-5
 returns-5 c = sym (hash-accepted _ _ _ (omega arith) (omega arith) (omega arith) (omega arith))
 
-pub tested-spec : {M : Type 1} → statement M
-tested-spec = tie.close
+pub check-lengths-spec : {M : Type 1} → statement M
+check-lengths-spec = tie.close
     (tie.spec
     returns
     returns-2

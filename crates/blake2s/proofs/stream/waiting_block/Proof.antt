@@ -6,8 +6,8 @@ use lib.ListN.{length, length-take}
 use lib.Seq.{length-take-le}
 use Rattle.blake2s.specs.Stream.{total, done, waiting}
 use borrow.Author.Needs.{needs}
-use Rattle.blake2s.proofs.stream.held.Statement.{statement}
-use Rattle.blake2s.proofs.stream.held.Tie as tie
+use Rattle.blake2s.proofs.stream.waiting_block.Statement.{statement}
+use Rattle.blake2s.proofs.stream.waiting_block.Tie as tie
 
 array-share-prefix-block : tie.Need-array-share-prefix-block
 array-share-prefix-block c =
@@ -30,8 +30,8 @@ returns c =
     let e : total x - done x ≡ b .fill .result = omega arith in
     rw (c .pad .ensures, e)
 
-pub held-spec : {M : Type 1} → statement M
-held-spec =
+pub waiting-block-spec : {M : Type 1} → statement M
+waiting-block-spec =
     tie.close
     (tie.spec
     (λ c κs. search needs)

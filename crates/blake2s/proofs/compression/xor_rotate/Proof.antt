@@ -1,15 +1,15 @@
 -- The code is the definition, with what `rotate_right` ensures.
-use Rattle.blake2s.specs.Rfc7693.{turned}
+use Rattle.blake2s.specs.Rfc7693.{xorRotated}
 use borrow.Author.Needs.{needs}
-use Rattle.blake2s.proofs.compression.turn.Statement.{statement}
-use Rattle.blake2s.proofs.compression.turn.Tie as tie
+use Rattle.blake2s.proofs.compression.xor_rotate.Statement.{statement}
+use Rattle.blake2s.proofs.compression.xor_rotate.Tie as tie
 
 returns : tie.Need-returns
-unfolding turned
+unfolding xorRotated
 returns c = rw (c .rotate-right .ensures)
 
-pub turn-spec : {M : Type 1} → statement M
-turn-spec =
+pub xor-rotate-spec : {M : Type 1} → statement M
+xor-rotate-spec =
     tie.close
     (tie.spec
     (λ c. search needs)
