@@ -8,10 +8,10 @@ use lib.Dec.{eqb}
 use lib.ListN.{length, getD, drop, length-append, length-drop}
 use lib.Seq.{getD-at, take-all}
 use borrow.Author.Tests.{ne-eqb}
-use Rattle.blake2s.specs.Rfc7693.{each, rotr, word, words, bytes, iv, sigma, added, xorRotated, G, workVector, round, rounds, F, padded, input, blockAt, blockCount, Compression, leading, compressions, compressed, initial, blake2s}
+use Rattle.blake2s.specs.Rfc7693.{rotr, word, words, bytes, iv, sigma, added, xorRotated, G, workVector, round, rounds, F, padded, input, blockAt, blockCount, Compression, leading, compressions, compressed, initial, blake2s}
 use Rattle.blake2s.specs.Hash.{numberOf, hashNumber, hashOutput}
 use Rattle.blake2s.specs.Stream.{earlier, begun, extended, inRange, beginNumber, beginContext, updateNumber, updateContext, finishNumber, finishOutput, refusedContext}
-use Rattle.blake2s.specs.Theorems.{Hashing, Streamed, Streaming, run, numbers, joined}
+use Rattle.blake2s.specs.Theorems.{Examples, Hashing, Streamed, Streaming, run, numbers, joined}
 use Rattle.blake2s.specs.declared.Context.{Context}
 use Rattle.blake2s.specs.declared.Answer.{Answer}
 use Rattle.blake2s.specs.declared.Answer.the-variants.{Accepted, ContextRange, OutputLength, KeyLength, MessageLength}
@@ -22,6 +22,10 @@ use Rattle.blake2s.proofs.Blocks.{block-full}
 use Rattle.blake2s.proofs.Numbers.{hash-accepted, Lengths, accepted-lengths, update-zero, update-accepted, finish-accepted, finish-not-one}
 use Rattle.blake2s.proofs.Streams.{length-input, blocks, calls, in-parts, stream-size, streamed}
 use Rattle.blake2s.proofs.Sessions.{begun-nil, at-range, runs}
+
+pub examples : Examples
+unfolding rotr word words bytes iv sigma added xorRotated G workVector round rounds F padded input blockAt blockCount leading compressions compressed initial blake2s
+examples = record { abc = refl; keyed = refl }
 
 module _ (key msg : List ℕ) (fits : length key ≤ 32) where
   leading-count : (n : ℕ) → length (leading n 0 (input key msg)) ≡ n
@@ -64,23 +68,6 @@ full-last key msg k h e =
     let b : blockAt d k ≡ drop (64 * k) d = block-full d k (omega arith) ∙ take-all 64 (drop (64 * k) d) (omega arith) in
     rw (calls key msg h, n, b)
 
--- the definition computes
-abc : blake2s [] (97 ∷ 98 ∷ 99 ∷ []) 32 ≡
-    0x50 ∷ 0x8c ∷ 0x5e ∷ 0x8c ∷ 0x32 ∷ 0x7c ∷ 0x14 ∷ 0xe2 ∷
-    0xe1 ∷ 0xa7 ∷ 0x2b ∷ 0xa3 ∷ 0x4e ∷ 0xeb ∷ 0x45 ∷ 0x2f ∷
-    0x37 ∷ 0x45 ∷ 0x8b ∷ 0x20 ∷ 0x9e ∷ 0xd6 ∷ 0x3a ∷ 0x29 ∷
-    0x4d ∷ 0x99 ∷ 0x9b ∷ 0x4c ∷ 0x86 ∷ 0x67 ∷ 0x59 ∷ 0x82 ∷ []
-unfolding rotr word words bytes iv sigma added xorRotated G workVector round rounds F padded input blockAt blockCount leading compressions compressed initial blake2s
-abc = refl
-
-keyed-empty : blake2s (each 32 (λ i. i)) [] 32 ≡
-    0x48 ∷ 0xa8 ∷ 0x99 ∷ 0x7d ∷ 0xa4 ∷ 0x07 ∷ 0x87 ∷ 0x6b ∷
-    0x3d ∷ 0x79 ∷ 0xc0 ∷ 0xd9 ∷ 0x23 ∷ 0x25 ∷ 0xad ∷ 0x3b ∷
-    0x89 ∷ 0xcb ∷ 0xb7 ∷ 0x54 ∷ 0xd8 ∷ 0x6a ∷ 0xb7 ∷ 0x1a ∷
-    0xee ∷ 0x04 ∷ 0x7a ∷ 0xd3 ∷ 0x45 ∷ 0xfd ∷ 0x2c ∷ 0x49 ∷ []
-unfolding rotr word words bytes iv sigma added xorRotated G workVector round rounds F padded input blockAt blockCount leading compressions compressed initial blake2s
-keyed-empty = refl
-
 -- the answer of a number
 answer : ℕ → Answer
 answer n = cond (eqb n 0) Accepted (cond (eqb n 1) ContextRange (cond (eqb n 8) OutputLength (cond (eqb n 9) KeyLength MessageLength)))
@@ -99,8 +86,6 @@ same-number x y e = sym (answer-of x) ∙ ap answer e ∙ answer-of y
 pub hashing : Hashing
 unfolding sigma blockCount
 hashing = record {
-  example = abc;
-  known = keyed-empty;
   orders = refl;
   permutation = λ r h. (order-length r h, order-once r h);
   empty = count [] [] (omega arith);

@@ -1,4 +1,4 @@
--- What is proved about hashing besides the promises. The proofs are `hashing` and `streaming` in proofs/Proved.antt.
+-- What is proved about hashing besides the promises. The proofs are `examples`, `hashing` and `streaming` in proofs/Proved.antt.
 use Prim.Native.Nat.{ℕ, suc, _+_, _*_, _^_, _<_, _≤_}
 use mathlib.Core.Path.{_≡_}
 use mathlib.Core.Bool.{Bool, true, cond}
@@ -13,24 +13,27 @@ use Rattle.blake2s.specs.Stream.{inRange, beginNumber, beginContext, upd
 use Rattle.blake2s.specs.declared.Answer.{Answer}
 use Rattle.blake2s.specs.declared.Context.{Context}
 
+-- the definition of RFC 7693, computed on published examples
+pub record Examples : Type 0 where
+  -- RFC 7693, appendix B: "abc"
+  pub abc : blake2s [] (97 ∷ 98 ∷ 99 ∷ []) 32 ≡
+      0x50 ∷ 0x8c ∷ 0x5e ∷ 0x8c ∷ 0x32 ∷ 0x7c ∷ 0x14 ∷ 0xe2 ∷
+      0xe1 ∷ 0xa7 ∷ 0x2b ∷ 0xa3 ∷ 0x4e ∷ 0xeb ∷ 0x45 ∷ 0x2f ∷
+      0x37 ∷ 0x45 ∷ 0x8b ∷ 0x20 ∷ 0x9e ∷ 0xd6 ∷ 0x3a ∷ 0x29 ∷
+      0x4d ∷ 0x99 ∷ 0x9b ∷ 0x4c ∷ 0x86 ∷ 0x67 ∷ 0x59 ∷ 0x82 ∷ []
+  -- the first of the known answers that BLAKE2 is published with: the key 0, 1, .., 31 and no message
+  pub keyed : blake2s (each 32 (λ i. i)) [] 32 ≡
+      0x48 ∷ 0xa8 ∷ 0x99 ∷ 0x7d ∷ 0xa4 ∷ 0x07 ∷ 0x87 ∷ 0x6b ∷
+      0x3d ∷ 0x79 ∷ 0xc0 ∷ 0xd9 ∷ 0x23 ∷ 0x25 ∷ 0xad ∷ 0x3b ∷
+      0x89 ∷ 0xcb ∷ 0xb7 ∷ 0x54 ∷ 0xd8 ∷ 0x6a ∷ 0xb7 ∷ 0x1a ∷
+      0xee ∷ 0x04 ∷ 0x7a ∷ 0xd3 ∷ 0x45 ∷ 0xfd ∷ 0x2c ∷ 0x49 ∷ []
+
 -- how often k stands in a list
 unfoldable pub times : ℕ → List ℕ → ℕ
 times k [] = 0
 times k (x ∷ xs) = cond (eqb k x) 1 0 + times k xs
 
 pub record Hashing : Type 0 where
-  -- RFC 7693, appendix B: the definition gives the example's hash of "abc"
-  pub example : blake2s [] (97 ∷ 98 ∷ 99 ∷ []) 32 ≡
-      0x50 ∷ 0x8c ∷ 0x5e ∷ 0x8c ∷ 0x32 ∷ 0x7c ∷ 0x14 ∷ 0xe2 ∷
-      0xe1 ∷ 0xa7 ∷ 0x2b ∷ 0xa3 ∷ 0x4e ∷ 0xeb ∷ 0x45 ∷ 0x2f ∷
-      0x37 ∷ 0x45 ∷ 0x8b ∷ 0x20 ∷ 0x9e ∷ 0xd6 ∷ 0x3a ∷ 0x29 ∷
-      0x4d ∷ 0x99 ∷ 0x9b ∷ 0x4c ∷ 0x86 ∷ 0x67 ∷ 0x59 ∷ 0x82 ∷ []
-  -- and, with the key 0, 1, .., 31 and no message, the first of the known answers that BLAKE2 is published with
-  pub known : blake2s (each 32 (λ i. i)) [] 32 ≡
-      0x48 ∷ 0xa8 ∷ 0x99 ∷ 0x7d ∷ 0xa4 ∷ 0x07 ∷ 0x87 ∷ 0x6b ∷
-      0x3d ∷ 0x79 ∷ 0xc0 ∷ 0xd9 ∷ 0x23 ∷ 0x25 ∷ 0xad ∷ 0x3b ∷
-      0x89 ∷ 0xcb ∷ 0xb7 ∷ 0x54 ∷ 0xd8 ∷ 0x6a ∷ 0xb7 ∷ 0x1a ∷
-      0xee ∷ 0x04 ∷ 0x7a ∷ 0xd3 ∷ 0x45 ∷ 0xfd ∷ 0x2c ∷ 0x49 ∷ []
   -- RFC 7693, 2.7: there are ten orders, each a permutation of the sixteen places
   pub orders : length sigma ≡ 10
   pub permutation : (r : ℕ) → r < 10 → (length (getD sigma r []) ≡ 16) × ((k : ℕ) → k < 16 → times k (getD sigma r []) ≡ 1)

@@ -39,20 +39,6 @@ fn first_state(kk: usize, nn: usize) -> [u32; 8]
     ]
 }
 
-// A block: s, filled up with zeros.
-fn pad(s: &[u8]) -> [u8; 64]
-    requires { ⌜ length (now s) ≤ 64 ⌝ }
-    ensures { λ r. ⌜ r ≡ padded (now (s .entry)) ⌝ }
-{
-    let mut b = [0u8; 64];
-    let mut i: usize = 0;
-    while i < s.len() {
-        b[i] = s[i];
-        i = i + 1;
-    }
-    b
-}
-
 // b with the bytes s from a place on.
 fn append(b: [u8; 64], at: usize, s: &[u8]) -> [u8; 64]
     requires { ⌜ at + length (now s) ≤ 64 ⌝ }
@@ -65,6 +51,14 @@ fn append(b: [u8; 64], at: usize, s: &[u8]) -> [u8; 64]
         i = i + 1;
     }
     w
+}
+
+// A block: s, filled up with zeros.
+fn pad(s: &[u8]) -> [u8; 64]
+    requires { ⌜ length (now s) ≤ 64 ⌝ }
+    ensures { λ r. ⌜ r ≡ padded (now (s .entry)) ⌝ }
+{
+    append([0; 64], 0, s)
 }
 
 // How many of n bytes stand in blocks before the final one.
