@@ -131,7 +131,7 @@ fn round(m: &[u32; 16], s: [u8; 16], v: [u32; 16]) -> [u32; 16]
     step(m, s, 7, v7, 3, 4, 9, 14)
 }
 
-// The ten rounds. One call in a loop and the table copied once: other shapes took twice the time.
+// The ten rounds. One call in a loop and the table copied once, for speed: docs/DECISIONS.md, 15.
 fn rounds(v: [u32; 16], m: &[u32; 16]) -> [u32; 16]
     ensures { λ r. ⌜ r ≡ rounds (now (m .entry)) sigma v ⌝ }
 {
