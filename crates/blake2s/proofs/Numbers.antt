@@ -5,10 +5,12 @@ use Prim.Native.Nat.{ℕ, _+_, _<_, _≤_}
 use native.Mathlib.Omega.{arith}
 use lib.Dec.{ltb, eqb}
 use borrow.Author.Tests.{eq-eqb, ne-eqb, lt-ltb, le-ltb, ltb-false, eqb-false}
-use mathlib.Core.List.{[], _∷_}
+use mathlib.Core.List.{List, [], _∷_}
 use denote.Enum.Declared.{tagOf}
 use types.Run.{OneOf, miss}
-use Rattle.blake2s.specs.Hash.{numberOf, hashNumber}
+use lib.ListN.{length}
+use Rattle.blake2s.specs.Rfc7693.{blake2s}
+use Rattle.blake2s.specs.Hash.{numberOf, hashNumber, hashOutput}
 use Rattle.blake2s.proofs.Answer.{the-type}
 use Rattle.blake2s.specs.declared.Answer.{Answer}
 use Rattle.blake2s.specs.declared.Answer.the-variants.{Accepted, ContextRange, OutputLength, KeyLength, MessageLength}
@@ -38,6 +40,11 @@ module _ (kk ll nn : ℕ) where
         pub hash-accepted : ll ≤ 4294967295 → hashNumber kk ll nn ≡ 0
         unfolding hashNumber
         hash-accepted m = simp (ne-eqb nn 0 (λ e. omega arith), le-ltb 32 nn h, le-ltb 32 kk k, le-ltb 4294967295 ll m)
+
+-- a hash of 32 bytes without a key
+pub digest-32 : (msg out : List ℕ) → length msg ≤ 4294967295 → length out ≡ 32 → hashOutput [] msg out ≡ blake2s [] msg 32
+unfolding hashOutput
+digest-32 msg out h e = rw (e, hash-accepted 0 (length msg) 32 (omega arith) (omega arith) (omega arith) h)
 
 -- an answer with another tag than the first is a refusal, and the answer of the first tag is none
 pub refused-tag : (a : Answer) → OneOf (1 ∷ 2 ∷ 3 ∷ 4 ∷ []) (tagOf the-type a) → numberOf a ≡ 0 → ⊥

@@ -109,7 +109,7 @@ module _ (id ep n : ℕ) where
 
 module _ (b : ℕ) where
   -- a byte is read as good or as bad by its bits 7 and 2
-  by-bits : (P : Reading → Type 0) → (b / 128 % 2 ≡ 0 → b / 4 % 2 ≡ 0 → P (good (b / 32 % 4) (b / 8 % 4) (lengthOf (b / 1 % 4))))
+  pub by-bits : (P : Reading → Type 0) → (b / 128 % 2 ≡ 0 → b / 4 % 2 ≡ 0 → P (good (b / 32 % 4) (b / 8 % 4) (lengthOf (b / 1 % 4))))
       → ((bit 7 b ≡ 1) ⊎ (bit 2 b ≡ 1) → P (stop 22)) → P (headerAt b)
   unfolding headerAt
   by-bits P f g = go (eqb (b / 128 % 2) 0) (eqb (b / 4 % 2) 0) refl refl

@@ -1,0 +1,87 @@
+-- The theorem of specs/Theorems.antt: parts of known lengths are cut off one after the other, and the domain tells both flags.
+use Prim.Native.Nat.{ℕ, _+_, _/_, _%_}
+use mathlib.Core.Path.{_≡_, refl, sym, ap, _∙_}
+use mathlib.Core.Bool.{Bool, true, false, cond}
+use mathlib.Core.List.{List, [], _∷_, _++_, append-assoc}
+use lib.Dec.{eqb}
+use lib.ListN.{length, take, drop, getD, length-append}
+use lib.Seq.{take-at, drop-at, getD-at}
+use Rattle.cdi.specs.Cdi.{domainOf, measurementOf, cdiString}
+use Rattle.cdi.specs.Theorems.{Inputs, stringOf, Cdi}
+use Rattle.cdi.proofs.Parts.{head-length}
+
+-- lists that are equal have equal parts, before and after a place
+module _ (p q r s : List ℕ) (n : ℕ) (hp : length p ≡ n) (hq : length q ≡ n) (e : p ++ r ≡ q ++ s) where
+  front : p ≡ q
+  front = sym (take-at p r n hp) ∙ ap (λ (l : List ℕ). take n l) e ∙ take-at q s n hq
+
+  back : r ≡ s
+  back = sym (drop-at p r n hp) ∙ ap (λ (l : List ℕ). drop n l) e ∙ drop-at q s n hq
+
+-- the flags of a domain
+used-of : (u s : Bool) → eqb (domainOf u s % 2) 1 ≡ u
+used-of false false = refl
+used-of false true = refl
+used-of true false = refl
+used-of true true = refl
+
+seed-of : (u s : Bool) → eqb (domainOf u s / 2) 1 ≡ s
+seed-of false false = refl
+seed-of false true = refl
+seed-of true false = refl
+seed-of true true = refl
+
+module _ (x : Inputs) where
+  abbrev dom : ℕ
+  dom = domainOf (x .used) (x .seed)
+
+  abbrev measurement : List ℕ
+  measurement = measurementOf (x .seed) (x .measuredId) (x .digest)
+
+  abbrev secret : List ℕ
+  secret = cond (x .used) (x .uss) []
+
+  -- all but the user secret
+  abbrev start : List ℕ
+  start = x .uds ++ dom ∷ measurement
+
+  measurement-length : length measurement ≡ 32
+  measurement-length = go (x .seed)
+    where
+      go : (b : Bool) → length (measurementOf b (x .measuredId) (x .digest)) ≡ 32
+      go true = x .measuredId-length
+      go false = x .digest-length
+
+  start-length : length start ≡ 65
+  start-length = head-length (x .uds) dom measurement (x .uds-length) measurement-length
+
+  domain-at : getD (stringOf x) 32 0 ≡ dom
+  unfolding cdiString
+  domain-at = rw (append-assoc (x .uds) (dom ∷ measurement) secret) (getD-at (x .uds) dom (measurement ++ secret) 0 32 (x .uds-length))
+
+  string-length : length (stringOf x) ≡ cond (x .used) 97 65
+  unfolding cdiString
+  string-length = rw (length-append start secret, start-length) (go (x .used))
+    where
+      go : (b : Bool) → 65 + length (cond b (x .uss) []) ≡ cond b 97 65
+      go true = rw (x .uss-length)
+      go false = refl
+
+pub cdi : Cdi
+unfolding cdiString
+cdi = record {
+  direct = λ x s u. (domain-at x ∙ rw (s, u), string-length x ∙ rw u);
+  chained = λ x s u. (domain-at x ∙ rw (s, u), string-length x ∙ rw u);
+  domain = domain-at;
+  size = string-length;
+  injective = λ x y e.
+      let f : start x ≡ start y = front (start x) (start y) (secret x) (secret y) 65 (start-length x) (start-length y) e in
+      let t : dom x ∷ measurement x ≡ dom y ∷ measurement y = back (x .uds) (y .uds) _ _ 32 (x .uds-length) (y .uds-length) f in
+      let d : dom x ≡ dom y = cc in (
+        front (x .uds) (y .uds) _ _ 32 (x .uds-length) (y .uds-length) f,
+        sym (seed-of (x .used) (x .seed)) ∙ ap (λ (n : ℕ). eqb (n / 2) 1) d ∙ seed-of (y .used) (y .seed),
+        cc,
+        sym (used-of (x .used) (x .seed)) ∙ ap (λ (n : ℕ). eqb (n % 2) 1) d ∙ used-of (y .used) (y .seed),
+        back (start x) (start y) (secret x) (secret y) 65 (start-length x) (start-length y) e,
+      );
+}

@@ -1,0 +1,67 @@
+-- Lists of bytes compared and copied.
+use Prim.Native.Nat.{ℕ, _+_, _*_, _/_, _%_, _^_, _<_, _≤_}
+use mathlib.Core.Bool.{Bool, true, false, _&&_}
+use mathlib.Core.List.{List, [], _∷_, _++_, append-nil, append-assoc}
+use mathlib.Core.Path.{_≡_, refl, sym}
+use native.Mathlib.Omega.{arith}
+use native.Mathlib.Nat.{add-comm}
+use native.Mathlib.Numerals.{add-one}
+use lib.Dec.{eqb}
+use lib.ListN.{length, getD, take, drop, set, length-take, drop-of-length-le}
+use lib.Seq.{paste, take-all, drop-drop}
+use borrow.Author.Tests.{eq-eqb, eqb-true}
+use Rattle.blake2s.specs.Rfc7693.{bytes}
+use Rattle.blake2s.proofs.Lists.{length-each}
+use Rattle.loader.specs.State.{same}
+use Rattle.loader.specs.Machine.{putIn}
+
+pub same-refl : (xs : List ℕ) → same xs xs ≡ true
+same-refl [] = refl
+same-refl (x ∷ xs) = simp (eq-eqb x x refl) (same-refl xs)
+
+pub same-eq : (xs ys : List ℕ) → same xs ys ≡ true → xs ≡ ys
+same-eq [] [] e = refl
+same-eq [] (y ∷ ys) e = absurd (let w : _≡_ {A = ℕ} 0 1 = cc in omega arith)
+same-eq (x ∷ xs) [] e = absurd (let w : _≡_ {A = ℕ} 0 1 = cc in omega arith)
+same-eq (x ∷ xs) (y ∷ ys) e = go (eqb x y) refl e (same-eq xs ys)
+  where
+    go : (t : Bool) → eqb x y ≡ t → t && same xs ys ≡ true → (same xs ys ≡ true → xs ≡ ys) → _≡_ {A = List ℕ} (x ∷ xs) (y ∷ ys)
+    go true p q f = let a : x ≡ y = eqb-true x y p in let b : xs ≡ ys = f q in cc
+    go false p q f = absurd (let w : _≡_ {A = ℕ} 0 1 = cc in omega arith)
+
+-- a test that is true exactly where the lists are equal is `same`
+pub same-is : (r : Bool) (xs ys : List ℕ) → (r ≡ true → xs ≡ ys) → (xs ≡ ys → r ≡ true) → r ≡ same xs ys
+same-is true xs ys f g = sym (let e : xs ≡ ys = f refl in rw e (same-refl ys))
+same-is false xs ys f g = go (same xs ys) refl
+  where
+    go : (t : Bool) → same xs ys ≡ t → false ≡ t
+    go true p = g (same-eq xs ys p)
+    go false p = refl
+
+-- all of s copied over the k bytes of d from a place on
+pub put-part : (d s part : List ℕ) (at k : ℕ) → k ≡ length s → length part ≤ length s
+    → take at d ++ ((take (length s) s ++ drop (length s) part) ++ drop k (drop at d)) ≡ paste d at s (length s)
+put-part d s part at k e h = rw (e, drop-of-length-le part {i = length s} h, append-nil, drop-drop, append-assoc)
+
+-- a reply at the front of a room
+pub put-front : (room body : List ℕ) (h : ℕ) → 0 < length room → paste (set room 0 h) 1 body (length body) ≡ putIn room (h ∷ body)
+unfolding putIn
+put-front [] body h p = absurd (omega arith)
+put-front (x ∷ xs) body h p = rw (take-all (length body) body (omega arith), add-comm 1 (length body), add-one (length body))
+
+-- the first k bytes of s copied, as a part of s
+pub paste-part : (d s : List ℕ) (at k n : ℕ) → k ≡ n → n ≤ length s → paste d at (take k s) (length (take k s)) ≡ paste d at s n
+paste-part d s at k n e h =
+    let l : length (take n s) ≡ n = rw length-take (omega arith) in
+    let t : take n (take n s) ≡ take n s = take-all n (take n s) (omega arith) in
+    rw (e, l, t)
+
+-- all bytes of the eight words
+bytes-length : (h : List ℕ) → length (bytes h) ≡ 32
+unfolding bytes
+bytes-length h = length-each 32 (λ i. getD h (i / 4) 0 / 2 ^ (8 * (i % 4)) % 2 ^ 8)
+
+pub all-bytes : (h d : List ℕ) → length d ≡ 32 → take 32 (bytes h) ++ drop 32 d ≡ bytes h
+all-bytes h d e =
+    let l = bytes-length h in
+    rw (take-all 32 (bytes h) (omega arith), drop-of-length-le d {i = 32} (omega arith), append-nil)

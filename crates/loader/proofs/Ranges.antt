@@ -1,0 +1,114 @@
+-- What a state in range has.
+use Prim.Native.Nat.{ℕ, zero, suc, _+_, _-_, _*_, _/_, _%_, _<_, _≤_, min}
+use mathlib.Core.Bool.{Bool, true, false, not, cond, _&&_}
+use mathlib.Core.Path.{_≡_, refl, sym, _∙_}
+use native.Mathlib.Omega.{arith}
+use lib.Dec.{eqb, leb, ltb}
+use borrow.Author.Tests.{eqb-true, eqb-false, ltb-true, leb-true}
+use Rattle.framing.specs.Header.{Reading, good, stop, headerAt, lengthOf}
+use Rattle.framing.proofs.Headers.{by-bits}
+use Rattle.protocol.specs.Commands.{blocksFor, placeOf, countIn}
+use Rattle.loader.specs.State.{bodyLen, incomingOk, loadingOk, progressIn, progressOk, ramOk, inRange}
+use Rattle.loader.specs.Machine.{deedIn, deedWaiting, sized}
+use Rattle.loader.specs.declared.Phase.{Phase}
+use Rattle.loader.specs.declared.Phase.the-variants.{Waiting, Loading, Started, Stopped}
+use Rattle.loader.specs.declared.acting.Deed.the-variants as deed
+use Rattle.loader.specs.declared.Incoming.{Incoming}
+use Rattle.loader.specs.declared.Progress.{Progress}
+use Rattle.loader.specs.declared.State.{State}
+
+-- a test that is both true and false
+pub never : {A : Type 0} → _≡_ {A = Bool} true false → A
+never e = absurd (let w : _≡_ {A = ℕ} 0 1 = cc in omega arith)
+
+pub both : (x y : Bool) → x && y ≡ true → (x ≡ true) × (y ≡ true)
+both true y e = (refl, e)
+both false y e = never (sym e)
+
+-- by cases on a test, each with what the test says
+pub by-test : {A : Type 0} (P : A → Type 0) (t : Bool) (x y : A) → (t ≡ true → P x) → (t ≡ false → P y) → P (cond t x y)
+by-test P true x y f g = f refl
+by-test P false x y f g = g refl
+
+-- a body has at most 128 bytes
+length-small : (c : ℕ) → c < 4 → lengthOf c ≤ 128
+length-small zero h = omega arith
+length-small (suc zero) h = omega arith
+length-small (suc (suc zero)) h = omega arith
+length-small (suc (suc (suc zero))) h = omega arith
+length-small (suc (suc (suc (suc c)))) h = absurd (omega arith)
+
+pub body-small : (h : ℕ) → bodyLen (headerAt h) ≤ 128
+body-small h = by-bits h (λ (r : Reading). bodyLen r ≤ 128) (λ p q. length-small (h / 1 % 4) (omega arith)) (λ g. omega arith)
+
+-- how many bytes of a frame have come, where one is being gathered
+pub incoming-got : (i : Incoming) → incomingOk i ≡ true → (i .got ≡ 0 → ⊥) → (1 ≤ i .got) × (i .got ≤ 128)
+incoming-got i e n =
+    let s = body-small (i .header) in
+    let l : i .got ≤ bodyLen (headerAt (i .header)) = go (eqb (i .got) 0) refl e in
+    (omega (arith, n), omega arith)
+  where
+    go : (t : Bool) → eqb (i .got) 0 ≡ t → cond t (eqb (i .header) 0) (leb (i .got) (bodyLen (headerAt (i .header)))) ≡ true
+        → i .got ≤ bodyLen (headerAt (i .header))
+    go true p q = absurd (n (eqb-true (i .got) 0 p))
+    go false p q = leb-true (i .got) (bodyLen (headerAt (i .header))) q
+
+-- the numbers of a load
+pub record Loaded (p : Progress) (m : ℕ) : Type 0 where
+  pub some : 1 ≤ p .size
+  pub fits : p .size ≤ m
+  pub due : p .block < blocksFor (p .size)
+
+pub loading-facts : (p : Progress) (m : ℕ) → loadingOk p m ≡ true → Loaded p m
+loading-facts p m e =
+    let a = both (leb 1 (p .size)) _ e in
+    let b = both (leb (p .size) m) _ (a .1) in
+    record {
+      some = leb-true 1 (p .size) (a .0);
+      fits = leb-true (p .size) m (b .0);
+      due = ltb-true (p .block) (blocksFor (p .size)) (b .1);
+    }
+
+-- a block's bytes are within the program
+pub block-within : (p : Progress) (m : ℕ) → Loaded p m → placeOf (p .block) + countIn (p .size) (p .block) ≤ m
+block-within p m l =
+    let k : p .block < (p .size + 126) / 127 = l .due in
+    let f : p .size ≤ m = l .fits in
+    let d : (p .size + 126) / 127 * 127 ≤ p .size + 126 = omega arith in
+    omega arith
+
+-- only while loading is a block asked for
+pub block-loading : (ph : Phase) (c n : ℕ) (p : Progress) (m : ℕ) → deedIn ph c n ≡ deed.Block → progressIn ph p m ≡ true → loadingOk p m ≡ true
+block-loading Loading c n p m e r = r
+block-loading Waiting c n p m e r = absurd (no-block (eqb c 0x01) (eqb c 0x08) (eqb c 0x03) (eqb n 1) (eqb n 128) e)
+  where
+    no-block : (x y z t u : Bool) → cond x (cond t deed.Name deed.WrongLength) (cond y (cond t deed.Udi deed.WrongLength) (cond z (cond u deed.Load deed.WrongLength) deed.NotAllowed)) ≡ deed.Block → ⊥
+    no-block true y z true u e = let w : _≡_ {A = ℕ} 0 1 = cc in omega arith
+    no-block true y z false u e = let w : _≡_ {A = ℕ} 0 1 = cc in omega arith
+    no-block false true z true u e = let w : _≡_ {A = ℕ} 0 1 = cc in omega arith
+    no-block false true z false u e = let w : _≡_ {A = ℕ} 0 1 = cc in omega arith
+    no-block false false true t true e = let w : _≡_ {A = ℕ} 0 1 = cc in omega arith
+    no-block false false true t false e = let w : _≡_ {A = ℕ} 0 1 = cc in omega arith
+    no-block false false false t u e = let w : _≡_ {A = ℕ} 0 1 = cc in omega arith
+block-loading Started c n p m e r = absurd (let w : _≡_ {A = ℕ} 0 1 = cc in omega arith)
+block-loading Stopped c n p m e r = absurd (let w : _≡_ {A = ℕ} 0 1 = cc in omega arith)
+
+-- the parts of the range
+pub record InRange (s : State) : Type 0 where
+  pub ram-some : 1 ≤ s .config .«ram_len»
+  pub ram-small : s .config .«ram_len» ≤ 131072
+  pub incoming : incomingOk (s .incoming) ≡ true
+  pub progress : progressOk (s .progress) (s .config .«ram_len») ≡ true
+
+pub range-facts : (s : State) → inRange s ≡ true → InRange s
+unfolding inRange
+range-facts s e =
+    let a = both (ramOk (s .config .«ram_len»)) _ e in
+    let b = both (leb 1 (s .config .«ram_len»)) _ (a .0) in
+    let d = both (incomingOk (s .incoming)) _ (a .1) in
+    record {
+      ram-some = leb-true 1 (s .config .«ram_len») (b .0);
+      ram-small = leb-true (s .config .«ram_len») 131072 (b .1);
+      incoming = d .0;
+      progress = d .1;
+    }

@@ -1,0 +1,126 @@
+-- Outcomes put together from what the callees ensure, over variables, so that what is rewritten stays small.
+use Prim.Native.Nat.{ℕ, _+_, _≤_}
+use mathlib.Core.Bool.{Bool, true, false, not, cond}
+use mathlib.Core.Path.{_≡_, refl, sym, ap, _∙_}
+use mathlib.Core.List.{List}
+use native.Mathlib.Omega.{arith}
+use lib.Dec.{eqb, ltb}
+use lib.ListN.{length, getD}
+use borrow.Author.Tests.{ltb-false, eqb-true, not-false}
+use Rattle.framing.specs.Header.{headerAt}
+use Rattle.protocol.specs.Commands.{bytesOf, loadIn, goodLoad}
+use Rattle.protocol.specs.Replies.{sent, loadReply, digestReply}
+use Rattle.protocol.specs.declared.Frame.{Frame}
+use Rattle.protocol.specs.declared.Load.{Load}
+use Rattle.protocol.specs.declared.Reply.{Reply}
+use Rattle.loader.specs.State.{zeros, bodyLen, inRange, live, ended}
+use Rattle.loader.specs.Answers.{refusalNumber, outcome}
+use Rattle.loader.specs.Machine.{plainly, between, frameOf, putIn, replying, loadOf, takes, loaded, loadAnswer, afterLoad, allowed, startOf, finishedWith, deedIn, performed, acted, refusal, withIncoming, gathered, afterByte, heard, refusing, step}
+use Rattle.loader.specs.declared.Phase.the-variants as phase
+use Rattle.loader.specs.declared.Refusal.{Refusal}
+use Rattle.loader.specs.declared.Refusal.the-variants.{StateRange, Ended, ReplyRoom, RamLength, SecretLength}
+use Rattle.loader.specs.declared.Answer.the-variants.{Refused, Continue, Stopped}
+use Rattle.loader.specs.declared.Stop.the-variants.{Digest}
+use Rattle.loader.specs.declared.State.{State}
+use Rattle.loader.specs.declared.Received.{Received}
+use Rattle.loader.specs.declared.gathering.Step.{Step}
+use Rattle.loader.specs.declared.gathering.Gathered.{Gathered}
+use Rattle.loader.specs.declared.acting.Deed.{Deed}
+
+-- a reply after which the session goes on
+pub replies : (q r : Reply) (s : State) (x : Received) (room room' ram ram' uds : List ℕ) → r ≡ q → x ≡ plainly Continue (r .len + 1) s
+    → room' ≡ putIn room (sent r) → ram' ≡ ram → outcome x room' ram' uds ≡ replying q s room ram uds
+replies q r s x room room' ram ram' uds eq ex er em = rw (ex, er, em, eq)
+
+-- a load, as it is read, tested and answered
+module _ (s : State) (f : Frame) (l : Load) (g : Bool) (r : Reply)
+    (ef : f ≡ frameOf (s .incoming)) (el : l ≡ loadIn (bytesOf f)) (eg : g ≡ goodLoad (s .config .«ram_len») l)
+    (er : r ≡ loadReply (s .incoming .header) g) where
+  load-is : l ≡ loadOf s
+  load-is = el ∙ ap (λ (x : Frame). loadIn (bytesOf x)) ef
+
+  taken-is : g ≡ takes s
+  taken-is = eg ∙ ap (λ (x : Load). goodLoad (s .config .«ram_len») x) load-is
+
+  pub load-answer : r ≡ loadAnswer s
+  unfolding loadAnswer
+  load-answer = er ∙ ap (λ (x : Bool). loadReply (s .incoming .header) x) taken-is
+
+  pub load-taken : g ≡ true → loaded l ≡ afterLoad s
+  unfolding afterLoad
+  load-taken t = let e : takes s ≡ true = sym taken-is ∙ t in rw e (ap loaded load-is)
+
+  pub load-left : g ≡ false → s .progress ≡ afterLoad s
+  unfolding afterLoad
+  load-left t = let e : takes s ≡ false = sym taken-is ∙ t in rw e
+
+-- after the last block
+module _ (s : State) (d room ram uds : List ℕ) (x : Received) (room' uds' : List ℕ)
+    (er : room' ≡ putIn room (sent (digestReply (s .incoming .header) d))) where
+  pub ends-in-start : allowed (s .config) d ≡ true → x ≡ startOf s d uds → uds' ≡ zeros 8 → outcome x room' ram uds' ≡ finishedWith d s room ram uds
+  unfolding finishedWith
+  ends-in-start ea ex eu = rw (ea, ex, eu, er)
+
+  pub ends-in-stop : allowed (s .config) d ≡ false → x ≡ plainly (Stopped Digest) 129 (ended phase.Stopped (s .config .«ram_len»)) → uds' ≡ uds
+      → outcome x room' ram uds' ≡ finishedWith d s room ram uds
+  unfolding finishedWith
+  ends-in-stop ea ex eu = rw (ea, ex, eu, er)
+
+-- a whole frame, once it is known what it asks for
+pub acted-as : (s : State) (room ram uds : List ℕ) (d : Deed) (n : ℕ) → n ≡ bodyLen (headerAt (s .incoming .header))
+    → d ≡ deedIn (s .progress .phase) (getD (s .incoming .body) 0 0) n → performed d s room ram uds ≡ acted s room ram uds
+unfolding acted
+acted-as s room ram uds d n en ed = rw (ed, en)
+
+-- a byte, once it is known what it leads to
+pub heard-as : (s : State) (b : ℕ) (room ram uds : List ℕ) (g : Gathered) (k : Step) (t : State) → g ≡ gathered (s .incoming) b → k ≡ g .step
+    → t ≡ withIncoming s (g .incoming) → afterByte k t room ram uds ≡ heard s b room ram uds
+unfolding heard
+heard-as s b room ram uds g k t eg ek et = rw (ek, et, eg)
+
+-- a refused call
+numbered : (w : Refusal) → eqb (refusalNumber w) 0 ≡ false
+numbered StateRange = refl
+numbered Ended = refl
+numbered ReplyRoom = refl
+numbered RamLength = refl
+numbered SecretLength = refl
+
+pub refused-as : (s : State) (b : ℕ) (room ram uds : List ℕ) (w : Refusal) (x : Received) → x ≡ plainly (Refused w) 0 s
+    → refusalNumber w ≡ refusal s (length room) (length ram) (length uds) → outcome x room ram uds ≡ step s b room ram uds
+unfolding step
+refused-as s b room ram uds w x ex e = rw (ex, ← e, numbered w)
+
+-- a call that is not refused
+pub admitted-as : (s : State) (b : ℕ) (room ram uds : List ℕ) → 0 ≡ refusal s (length room) (length ram) (length uds)
+    → heard s b room ram uds ≡ step s b room ram uds
+unfolding step
+admitted-as s b room ram uds e = rw (← e)
+
+-- what a call that is not refused has
+pub record Admitted (s : State) (room ram uds : ℕ) : Type 0 where
+  pub range : inRange s ≡ true
+  pub goes : live (s .progress .phase) ≡ true
+  pub room-fits : 129 ≤ room
+  pub ram-same : ram ≡ s .config .«ram_len»
+  pub words : uds ≡ 8
+
+not-then : (t : Bool) (k x : ℕ) → (k ≡ 0 → ⊥) → cond t k x ≡ 0 → (t ≡ false) × (x ≡ 0)
+not-then true k x h e = absurd (h e)
+not-then false k x h e = (refl, e)
+
+pub admitted : (s : State) (room ram uds : ℕ) → refusal s room ram uds ≡ 0 → Admitted s room ram uds
+unfolding refusal
+admitted s room ram uds e =
+    let a = not-then (not (inRange s)) 1 _ (omega arith) e in
+    let b = not-then (not (live (s .progress .phase))) 2 _ (omega arith) (a .1) in
+    let c = not-then (ltb room 129) 3 _ (omega arith) (b .1) in
+    let d = not-then (not (eqb ram (s .config .«ram_len»))) 4 _ (omega arith) (c .1) in
+    let f = not-then (not (eqb uds 8)) 5 0 (omega arith) (d .1) in
+    record {
+      range = not-false (inRange s) (a .0);
+      goes = not-false (live (s .progress .phase)) (b .0);
+      room-fits = ltb-false room 129 (c .0);
+      ram-same = eqb-true ram (s .config .«ram_len») (not-false (eqb ram (s .config .«ram_len»)) (d .0));
+      words = eqb-true uds 8 (not-false (eqb uds 8) (f .0));
+    }

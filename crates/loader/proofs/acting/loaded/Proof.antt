@@ -1,0 +1,10 @@
+-- By the fields of the load.
+use borrow.Author.Needs.{needs}
+use Rattle.loader.proofs.acting.loaded.Statement.{statement}
+use Rattle.loader.proofs.acting.loaded.Tie as tie
+
+returns : tie.Need-returns
+returns c = rw (c .uses-uss .ensures)
+
+pub loaded-spec : {M : Type 1} → statement M
+loaded-spec = tie.close (tie.spec (λ c κs. search needs) returns)

@@ -1,0 +1,214 @@
+-- What a byte does: document 01, "Header byte", "Commands and replies" and the table of refused calls.
+use Prim.Native.Nat.{ℕ, _+_, _-_}
+use mathlib.Core.Bool.{Bool, true, false, not, cond}
+use mathlib.Core.List.{List, [], _++_}
+use lib.Dec.{eqb, ltb}
+use lib.ListN.{length, getD, take, drop, set}
+use lib.Seq.{paste}
+use Rattle.framing.specs.Header.{Reading, good, stop, headerAt}
+use Rattle.blake2s.specs.Rfc7693.{blake2s, bytes}
+use Rattle.cdi.specs.Cdi.{cdiOf}
+use Rattle.protocol.specs.Commands.{bytesOf, commandIn, loadIn, goodLoad, usesUss, carriedBy, placeOf, countIn, isLast}
+use Rattle.protocol.specs.Replies.{sent, nameReply, udiReply, loadReply, blockReply, digestReply}
+use Rattle.protocol.specs.declared.Frame.{Frame}
+use Rattle.protocol.specs.declared.Load.{Load}
+use Rattle.protocol.specs.declared.Reply.{Reply}
+use Rattle.loader.specs.State.{zeros, same, bodyLen, inRange, live, idle, ended}
+use Rattle.loader.specs.Answers.{Report, refused, Outcome, outcome}
+use Rattle.loader.specs.declared.Phase.{Phase}
+use Rattle.loader.specs.declared.Phase.the-variants as phase
+use Rattle.loader.specs.declared.Incoming.{Incoming}
+use Rattle.loader.specs.declared.Config.{Config}
+use Rattle.loader.specs.declared.Progress.{Progress}
+use Rattle.loader.specs.declared.State.{State}
+use Rattle.loader.specs.declared.Answer.{Answer}
+use Rattle.loader.specs.declared.Answer.the-variants.{Refused, Continue, Stopped, Started}
+use Rattle.loader.specs.declared.Stop.the-variants.{HeaderBit, Command, BodyLength, Digest}
+use Rattle.loader.specs.declared.Received.{Received}
+use Rattle.loader.specs.declared.gathering.Step.{Step}
+use Rattle.loader.specs.declared.gathering.Step.the-variants.{More, Whole, Bad}
+use Rattle.loader.specs.declared.gathering.Gathered.{Gathered}
+use Rattle.loader.specs.declared.acting.Deed.{Deed}
+use Rattle.loader.specs.declared.acting.Deed.the-variants as deed
+
+-- ---- gathering: "Header byte"
+
+-- a header: a set bit 7 or bit 2 stops the head, for every endpoint
+abbrev pub opened : Reading → Incoming → ℕ → Gathered
+opened (good id ep n) i b = record { step = More; incoming = record { header = b; got = 1; body = i .body } }
+opened (stop k) i b = record { step = Bad; incoming = i }
+
+-- a byte of a body: only a frame for the firmware, endpoint 2, is kept
+abbrev pub kept : Incoming → ℕ → ℕ → Incoming
+kept i ep b = record { header = i .header; got = i .got + 1; body = cond (eqb ep 2) (set (i .body) (i .got - 1) b) (i .body) }
+
+-- a frame is whole with the last byte of its body; one for another endpoint is passed over
+abbrev pub inBody : Incoming → ℕ → ℕ → ℕ → Gathered
+inBody i ep n b =
+    cond (ltb (i .got) n) (record { step = More; incoming = kept i ep b })
+    (cond (eqb ep 2) (record { step = Whole; incoming = kept i ep b })
+    (record { step = More; incoming = idle }))
+
+abbrev pub continued : Reading → Incoming → ℕ → Gathered
+continued (good id ep n) i b = inBody i ep n b
+continued (stop k) i b = record { step = Bad; incoming = i }
+
+unfoldable pub gathered : Incoming → ℕ → Gathered
+gathered i b = cond (eqb (i .got) 0) (opened (headerAt b) i b) (continued (headerAt (i .header)) i b)
+
+-- ---- what a whole frame asks for: the table of commands
+
+-- stop 24 is a wrong body length
+abbrev pub sized : ℕ → ℕ → Deed → Deed
+sized wanted n d = cond (eqb n wanted) d deed.WrongLength
+
+-- by the command byte and the body's length; stop 23 is a command that is not allowed, unknown ones included
+abbrev pub deedWaiting : ℕ → ℕ → Deed
+deedWaiting c n =
+    cond (eqb c 0x01) (sized 1 n deed.Name)
+    (cond (eqb c 0x08) (sized 1 n deed.Udi)
+    (cond (eqb c 0x03) (sized 128 n deed.Load) deed.NotAllowed))
+
+abbrev pub deedLoading : ℕ → ℕ → Deed
+deedLoading c n = cond (eqb c 0x05) (sized 128 n deed.Block) deed.NotAllowed
+
+abbrev pub deedIn : Phase → ℕ → ℕ → Deed
+deedIn phase.Waiting c n = deedWaiting c n
+deedIn phase.Loading c n = deedLoading c n
+deedIn phase.Started c n = deed.NotAllowed
+deedIn phase.Stopped c n = deed.NotAllowed
+
+-- ---- what is then done: "Commands and replies"
+
+-- an answer with neither CDI nor digest
+abbrev pub plainly : Answer → ℕ → State → Received
+plainly a n s = record { answer = a; reply = n; state = s; cdi = zeros 32; digest = zeros 32 }
+
+-- the state between frames
+abbrev pub between : State → Progress → State
+between s p = record { incoming = idle; config = s .config; progress = p }
+
+abbrev pub stopped : Answer → State → Received
+stopped a s = plainly a 0 (ended phase.Stopped (s .config .«ram_len»))
+
+abbrev pub frameOf : Incoming → Frame
+frameOf i = record { header = i .header; body = i .body }
+
+-- the room with a reply at its front: only reply bytes are written
+unfoldable pub putIn : List ℕ → List ℕ → List ℕ
+putIn room reply = reply ++ drop (length reply) room
+
+-- the session goes on after a reply
+abbrev pub replying : Reply → State → List ℕ → List ℕ → List ℕ → Outcome
+replying r s room ram uds = outcome (plainly Continue (r .len + 1) s) (putIn room (sent r)) ram uds
+
+-- a load that is taken
+abbrev pub loaded : Load → Progress
+loaded l = record { phase = phase.Loading; size = l .size; block = 0; «uss_used» = usesUss l; uss = l .uss }
+
+-- the load that a whole frame is, and whether it is taken
+abbrev pub loadOf : State → Load
+loadOf s = loadIn (bytesOf (frameOf (s .incoming)))
+
+abbrev pub takes : State → Bool
+takes s = goodLoad (s .config .«ram_len») (loadOf s)
+
+-- a load that is not taken gets status 1, and the head goes on waiting
+unfoldable pub loadAnswer : State → Reply
+loadAnswer s = loadReply (s .incoming .header) (takes s)
+
+unfoldable pub afterLoad : State → Progress
+afterLoad s = cond (takes s) (loaded (loadOf s)) (s .progress)
+
+-- only the block's bytes below n are written in RAM
+abbrev pub storedIn : List ℕ → List ℕ → ℕ → ℕ → List ℕ
+storedIn ram f n k = paste ram (placeOf k) (carriedBy f) (countIn n k)
+
+abbrev pub nextBlock : Progress → Progress
+nextBlock p = record { phase = p .phase; size = p .size; block = p .block + 1; «uss_used» = p .«uss_used»; uss = p .uss }
+
+-- type 5 requires a digest, type 4 none
+abbrev pub allowed : Config → List ℕ → Bool
+allowed c d = cond (c .verify) (same d (c .required)) true
+
+-- a start gives the CDI, the digest d, the address and the size; the UDS is read only here
+unfoldable pub startOf : State → List ℕ → List ℕ → Received
+startOf s d uds =
+    record {
+      answer = Started 0x40000000 (s .progress .size);
+      reply = 129;
+      state = ended phase.Started (s .config .«ram_len»);
+      cdi = cdiOf (bytes uds) (s .config .chained) (s .config .«measured_id») d (s .progress .«uss_used») (s .progress .uss);
+      digest = d;
+    }
+
+-- the program has the digest d: the last reply is given, and then the head starts, or stops with 25
+unfoldable pub finishedWith : List ℕ → State → List ℕ → List ℕ → List ℕ → Outcome
+finishedWith d s room ram uds =
+    let room1 = putIn room (sent (digestReply (s .incoming .header) d)) in
+    cond (allowed (s .config) d)
+    (outcome (startOf s d uds) room1 ram (zeros 8))
+    (outcome (plainly (Stopped Digest) 129 (ended phase.Stopped (s .config .«ram_len»))) room1 ram uds)
+
+-- the first n bytes of RAM are measured
+abbrev pub finished : State → List ℕ → List ℕ → List ℕ → Outcome
+finished s room ram uds = finishedWith (blake2s [] (take (s .progress .size) ram) 32) s room ram uds
+
+unfoldable pub actedBlock : State → List ℕ → List ℕ → List ℕ → Outcome
+actedBlock s room ram uds =
+    let n = s .progress .size in
+    let k = s .progress .block in
+    let ram1 = storedIn ram (bytesOf (frameOf (s .incoming))) n k in
+    cond (isLast n k)
+    (finished s room ram1 uds)
+    (replying (blockReply (s .incoming .header)) (between s (nextBlock (s .progress))) room ram1 uds)
+
+abbrev pub performed : Deed → State → List ℕ → List ℕ → List ℕ → Outcome
+performed deed.Name s room ram uds = replying (nameReply (s .incoming .header)) (between s (s .progress)) room ram uds
+performed deed.Udi s room ram uds = replying (udiReply (s .incoming .header) (s .config .udi)) (between s (s .progress)) room ram uds
+performed deed.Load s room ram uds = replying (loadAnswer s) (between s (afterLoad s)) room ram uds
+performed deed.Block s room ram uds = actedBlock s room ram uds
+performed deed.NotAllowed s room ram uds = outcome (stopped (Stopped Command) s) room ram uds
+performed deed.WrongLength s room ram uds = outcome (stopped (Stopped BodyLength) s) room ram uds
+
+-- a whole frame for the firmware
+unfoldable pub acted : State → List ℕ → List ℕ → List ℕ → Outcome
+acted s room ram uds =
+    let f = bytesOf (frameOf (s .incoming)) in
+    performed (deedIn (s .progress .phase) (commandIn f) (bodyLen (headerAt (s .incoming .header)))) s room ram uds
+
+-- ---- a call: "Numbers of refused calls and of stops"
+
+-- the lowest refusal that applies, 0 for none; what is lent is given by its lengths
+unfoldable pub refusal : State → ℕ → ℕ → ℕ → ℕ
+refusal s room ram uds =
+    cond (not (inRange s)) 1
+    (cond (not (live (s .progress .phase))) 2
+    (cond (ltb room 129) 3
+    (cond (not (eqb ram (s .config .«ram_len»))) 4
+    (cond (not (eqb uds 8)) 5 0))))
+
+abbrev pub withIncoming : State → Incoming → State
+withIncoming s i = record { incoming = i; config = s .config; progress = s .progress }
+
+abbrev pub afterByte : Step → State → List ℕ → List ℕ → List ℕ → Outcome
+afterByte More s room ram uds = outcome (plainly Continue 0 s) room ram uds
+afterByte Bad s room ram uds = outcome (stopped (Stopped HeaderBit) s) room ram uds
+afterByte Whole s room ram uds = acted s room ram uds
+
+-- a byte of a call that is not refused
+unfoldable pub heard : State → ℕ → List ℕ → List ℕ → List ℕ → Outcome
+heard s b room ram uds =
+    let g = gathered (s .incoming) b in
+    afterByte (g .step) (withIncoming s (g .incoming)) room ram uds
+
+-- a refused call changes nothing
+abbrev pub refusing : ℕ → State → List ℕ → List ℕ → List ℕ → Outcome
+refusing k s room ram uds =
+    record { report = refused k; reply = 0; state = s; cdi = zeros 32; digest = zeros 32; room = room; ram = ram; uds = uds }
+
+-- document 01's hearing
+unfoldable pub step : State → ℕ → List ℕ → List ℕ → List ℕ → Outcome
+step s b room ram uds =
+    let k = refusal s (length room) (length ram) (length uds) in
+    cond (eqb k 0) (heard s b room ram uds) (refusing k s room ram uds)

@@ -1,0 +1,274 @@
+// A whole frame acted on: document 01, "Commands and replies".
+ghost use mathlib.Core.Path.{_≡_};
+ghost use mathlib.Core.Bool.{true};
+ghost use Prim.Native.Nat.{_+_, _<_, _≤_};
+ghost use lib.ListN.{length};
+ghost use Rattle.protocol.specs.Replies.{sent};
+ghost use Rattle.loader.specs.State.{zeros, progressOk, loadingOk, ended};
+ghost use Rattle.loader.specs.Answers.{outcome};
+ghost use Rattle.loader.specs.Machine.{plainly, between, frameOf, deedIn, deedWaiting, deedLoading, loaded, afterLoad, loadAnswer, nextBlock, allowed, startOf, putIn, finished, actedBlock, acted};
+use super::Answer;
+use super::Config;
+use super::Incoming;
+use super::Phase;
+use super::Progress;
+use super::Received;
+use super::State;
+use super::Stop;
+use protocol::Frame;
+use protocol::Load;
+use protocol::Reply;
+
+// What a whole frame asks for.
+pub enum Deed {
+    Name,
+    Udi,
+    Load,
+    Block,
+    // The command is not allowed in this phase, or unknown.
+    NotAllowed,
+    // The command has another body length.
+    WrongLength,
+}
+
+// An answer with neither CDI nor digest.
+pub fn plain(answer: Answer, reply: usize, state: State) -> Received
+    ensures { λ r. ⌜ r ≡ plainly answer reply state ⌝ }
+{
+    Received {
+        answer,
+        reply,
+        state,
+        cdi: [0; 32],
+        digest: [0; 32],
+    }
+}
+
+// A stop without a reply.
+pub fn stop(why: Stop, s: State) -> Received
+    ensures { λ r. ⌜ r ≡ plainly (Answer.Stopped why) 0 (ended Phase.Stopped (s .config .«ram_len»)) ⌝ }
+{
+    plain(
+        Answer::Stopped(why),
+        0,
+        super::states::ended(Phase::Stopped, s.config.ram_len),
+    )
+}
+
+// A command while waiting, by its number and its body's length.
+fn deed_waiting(command: u8, len: u8) -> Deed
+    ensures { λ r. ⌜ r ≡ deedWaiting command len ⌝ }
+{
+    match command {
+        0x01 => if len == 1 {
+            Deed::Name
+        } else {
+            Deed::WrongLength
+        },
+        0x08 => if len == 1 {
+            Deed::Udi
+        } else {
+            Deed::WrongLength
+        },
+        0x03 => if len == 128 {
+            Deed::Load
+        } else {
+            Deed::WrongLength
+        },
+        0x05 => Deed::NotAllowed,
+        0 | 2 | 4 | 6..=7 | 9..=255 => Deed::NotAllowed,
+    }
+}
+
+// A command while loading.
+fn deed_loading(command: u8, len: u8) -> Deed
+    ensures { λ r. ⌜ r ≡ deedLoading command len ⌝ }
+{
+    match command {
+        0x05 => if len == 128 {
+            Deed::Block
+        } else {
+            Deed::WrongLength
+        },
+        0x01 | 0x03 | 0x08 => Deed::NotAllowed,
+        0 | 2 | 4 | 6..=7 | 9..=255 => Deed::NotAllowed,
+    }
+}
+
+// A command.
+fn decide(phase: Phase, command: u8, len: u8) -> Deed
+    ensures { λ r. ⌜ r ≡ deedIn phase command len ⌝ }
+{
+    match phase {
+        Phase::Waiting => deed_waiting(command, len),
+        Phase::Loading => deed_loading(command, len),
+        Phase::Started => Deed::NotAllowed,
+        Phase::Stopped => Deed::NotAllowed,
+    }
+}
+
+// The frame that was gathered.
+fn frame(i: Incoming) -> Frame
+    ensures { λ r. ⌜ r ≡ frameOf i ⌝ }
+{
+    let body = i.body;
+    Frame {
+        header: i.header,
+        body,
+    }
+}
+
+// A reply, after which the session goes on.
+fn answer(s: State, p: Progress, r: Reply, room: &mut [u8]) -> Received
+    requires { ⌜ 129 ≤ length (now room) ⌝ }
+    requires { ⌜ r .len ≤ 128 ⌝ }
+    ensures { λ x. ⌜ (x ≡ plainly Answer.Continue (r .len + 1) (between s p)) × (now (room .exit) ≡ putIn (now (room .entry)) (sent r)) ⌝ }
+{
+    super::memory::put(room, r);
+    let incoming = super::states::idle();
+    let config = s.config;
+    let next = State {
+        incoming,
+        config,
+        progress: p,
+    };
+    plain(Answer::Continue, r.len + 1, next)
+}
+
+// The progress after a load that is taken.
+fn loaded(l: Load) -> Progress
+    ensures { λ r. ⌜ r ≡ loaded l ⌝ }
+{
+    let uss = l.uss;
+    Progress {
+        phase: Phase::Loading,
+        size: l.size,
+        block: 0,
+        uss_used: protocol::uses_uss(l),
+        uss,
+    }
+}
+
+// A load: one that is not taken changes nothing.
+fn act_load(s: State, room: &mut [u8]) -> Received
+    requires { ⌜ 129 ≤ length (now room) ⌝ }
+    ensures { λ r. ⌜ (r ≡ plainly Answer.Continue (loadAnswer s .len + 1) (between s (afterLoad s))) × (now (room .exit) ≡ putIn (now (room .entry)) (sent (loadAnswer s))) ⌝ }
+{
+    let i = s.incoming;
+    let p = s.progress;
+    let l = protocol::read_load(frame(i));
+    let good = protocol::load_is_good(l, s.config.ram_len);
+    let reply = protocol::load_reply(i.header, good);
+    if good {
+        return answer(s, loaded(l), reply, room);
+    }
+    answer(s, p, reply, room)
+}
+
+// The progress after a block that is not the last.
+fn next_block(p: Progress) -> Progress
+    requires { ⌜ p .block < 131072 ⌝ }
+    ensures { λ r. ⌜ r ≡ nextBlock p ⌝ }
+{
+    let mut next = p;
+    next.block = p.block + 1;
+    next
+}
+
+// Whether a program with this digest may start.
+fn allowed(c: Config, digest: [u8; 32]) -> bool
+    ensures { λ r. ⌜ r ≡ allowed c digest ⌝ }
+{
+    if !c.verify {
+        return true;
+    }
+    let required = c.required;
+    super::memory::equal(&digest, &required)
+}
+
+// A start: the device secret is read, and then cleared.
+fn start(s: State, digest: [u8; 32], uds: &mut [u32]) -> Received
+    requires { ⌜ length (now uds) ≡ 8 ⌝ }
+    ensures { λ r. ⌜ (r ≡ startOf s digest (now (uds .entry))) × (now (uds .exit) ≡ zeros 8) ⌝ }
+{
+    let c = s.config;
+    let p = s.progress;
+    let secret = super::memory::secret_bytes(uds);
+    let measured_id = c.measured_id;
+    let uss = p.uss;
+    let cdi = cdi::derive(secret, c.chained, measured_id, digest, p.uss_used, uss);
+    super::memory::clear(uds);
+    Received {
+        answer: Answer::Started {
+            address: 0x40000000,
+            size: p.size,
+        },
+        reply: 129,
+        state: super::states::ended(Phase::Started, c.ram_len),
+        cdi,
+        digest,
+    }
+}
+
+// After the last block the program is measured, its digest is given, and the head starts or stops.
+fn finish(s: State, room: &mut [u8], ram: &mut [u8], uds: &mut [u32]) -> Received
+    requires { ⌜ 129 ≤ length (now room) ⌝ }
+    requires { ⌜ (s .progress .size ≤ length (now ram)) × (s .progress .size ≤ 131072) ⌝ }
+    requires { ⌜ length (now uds) ≡ 8 ⌝ }
+    ensures { λ r. ⌜ outcome r (now (room .exit)) (now (ram .exit)) (now (uds .exit)) ≡ finished s (now (room .entry)) (now (ram .entry)) (now (uds .entry)) ⌝ }
+{
+    let c = s.config;
+    let n = s.progress.size as usize;
+    let digest = super::memory::measure(ram, n);
+    let reply = protocol::digest_reply(s.incoming.header, digest);
+    super::memory::put(room, reply);
+    if allowed(c, digest) {
+        return start(s, digest, uds);
+    }
+    plain(
+        Answer::Stopped(Stop::Digest),
+        129,
+        super::states::ended(Phase::Stopped, c.ram_len),
+    )
+}
+
+// A block.
+fn act_block(s: State, room: &mut [u8], ram: &mut [u8], uds: &mut [u32]) -> Received
+    requires { ⌜ 129 ≤ length (now room) ⌝ }
+    requires { ⌜ loadingOk (s .progress) (length (now ram)) ≡ true ⌝ }
+    requires { ⌜ length (now ram) ≤ 131072 ⌝ }
+    requires { ⌜ length (now uds) ≡ 8 ⌝ }
+    ensures { λ r. ⌜ outcome r (now (room .exit)) (now (ram .exit)) (now (uds .exit)) ≡ actedBlock s (now (room .entry)) (now (ram .entry)) (now (uds .entry)) ⌝ }
+{
+    let i = s.incoming;
+    let p = s.progress;
+    super::memory::store(ram, frame(i), p.size, p.block);
+    if protocol::is_last(p.size, p.block) {
+        return finish(s, room, ram, uds);
+    }
+    answer(s, next_block(p), protocol::block_reply(i.header), room)
+}
+
+// A whole frame for the firmware.
+pub fn act(s: State, room: &mut [u8], ram: &mut [u8], uds: &mut [u32]) -> Received
+    requires { ⌜ progressOk (s .progress) (length (now ram)) ≡ true ⌝ }
+    requires { ⌜ 129 ≤ length (now room) ⌝ }
+    requires { ⌜ length (now ram) ≤ 131072 ⌝ }
+    requires { ⌜ length (now uds) ≡ 8 ⌝ }
+    ensures { λ r. ⌜ outcome r (now (room .exit)) (now (ram .exit)) (now (uds .exit)) ≡ acted s (now (room .entry)) (now (ram .entry)) (now (uds .entry)) ⌝ }
+{
+    let i = s.incoming;
+    let p = s.progress;
+    let phase = p.phase;
+    let body = i.body;
+    let c = s.config;
+    let udi = c.udi;
+    match decide(phase, body[0], super::states::body_len(i.header)) {
+        Deed::Name => answer(s, p, protocol::name_reply(i.header), room),
+        Deed::Udi => answer(s, p, protocol::udi_reply(i.header, udi), room),
+        Deed::Load => act_load(s, room),
+        Deed::Block => act_block(s, room, ram, uds),
+        Deed::NotAllowed => stop(Stop::Command, s),
+        Deed::WrongLength => stop(Stop::BodyLength, s),
+    }
+}

@@ -1,0 +1,107 @@
+// A frame gathered byte by byte: document 01, "Header byte".
+ghost use mathlib.Core.Path.{_≡_};
+ghost use mathlib.Core.Bool.{true};
+ghost use Prim.Native.Nat.{_≤_};
+ghost use Rattle.framing.specs.Header.{headerAt};
+ghost use Rattle.loader.specs.State.{incomingOk};
+ghost use Rattle.loader.specs.Machine.{opened, kept, inBody, gathered};
+use super::Incoming;
+use framing::Header;
+
+// What a gathered byte leads to.
+pub enum Step {
+    // A header, a byte of an unfinished body, or the last byte of a frame for another endpoint.
+    More,
+    // The last byte of a frame for the firmware.
+    Whole,
+    // A header with bit 7 or bit 2 set.
+    Bad,
+}
+
+pub struct Gathered {
+    pub step: Step,
+    pub incoming: Incoming,
+}
+
+// A header.
+fn open(i: Incoming, b: u8) -> Gathered
+    ensures { λ r. ⌜ r ≡ opened (headerAt b) i b ⌝ }
+{
+    match framing::read_header(b) {
+        Header::Good {
+            id: _,
+            endpoint: _,
+            len: _,
+        } => {
+            let mut next = i;
+            next.header = b;
+            next.got = 1;
+            Gathered {
+                step: Step::More,
+                incoming: next,
+            }
+        }
+        Header::Bad => Gathered {
+            step: Step::Bad,
+            incoming: i,
+        },
+    }
+}
+
+// A byte of a body: it is kept where the frame is for the firmware.
+fn keep(i: Incoming, endpoint: u8, b: u8) -> Incoming
+    requires { ⌜ (1 ≤ i .got) × (i .got ≤ 128) ⌝ }
+    ensures { λ r. ⌜ r ≡ kept i endpoint b ⌝ }
+{
+    let mut next = i;
+    let at = (i.got - 1) as usize;
+    next.got = i.got + 1;
+    if endpoint == 2 {
+        next.body[at] = b;
+    }
+    next
+}
+
+// A byte of the body that a header announced.
+fn continue_body(i: Incoming, endpoint: u8, len: u8, b: u8) -> Gathered
+    requires { ⌜ (1 ≤ i .got) × (i .got ≤ 128) ⌝ }
+    ensures { λ r. ⌜ r ≡ inBody i endpoint len b ⌝ }
+{
+    if i.got < len {
+        return Gathered {
+            step: Step::More,
+            incoming: keep(i, endpoint, b),
+        };
+    }
+    if endpoint == 2 {
+        return Gathered {
+            step: Step::Whole,
+            incoming: keep(i, endpoint, b),
+        };
+    }
+    Gathered {
+        step: Step::More,
+        incoming: super::states::idle(),
+    }
+}
+
+// A byte.
+pub fn gather(i: Incoming, b: u8) -> Gathered
+    requires { ⌜ incomingOk i ≡ true ⌝ }
+    ensures { λ r. ⌜ r ≡ gathered i b ⌝ }
+{
+    if i.got == 0 {
+        return open(i, b);
+    }
+    match framing::read_header(i.header) {
+        Header::Good {
+            id: _,
+            endpoint,
+            len,
+        } => continue_body(i, endpoint, len, b),
+        Header::Bad => Gathered {
+            step: Step::Bad,
+            incoming: i,
+        },
+    }
+}

@@ -1,0 +1,105 @@
+// Bytes read, written and compared in what is lent: the reply room, RAM and the device secret.
+ghost use mathlib.Core.Path.{_≡_};
+ghost use mathlib.Core.List.{[]};
+ghost use Prim.Native.Nat.{_+_, _*_, _/_, _%_, _^_, _≤_, _<_};
+ghost use lib.ListN.{length, take, getD, replicate};
+ghost use lib.Seq.{paste};
+ghost use Rattle.blake2s.specs.Rfc7693.{blake2s, bytes};
+ghost use Rattle.protocol.specs.Commands.{bytesOf, placeOf, countIn};
+ghost use Rattle.protocol.specs.Replies.{sent};
+ghost use Rattle.loader.specs.State.{same};
+ghost use Rattle.loader.specs.Machine.{putIn, storedIn};
+use protocol::Frame;
+use protocol::Reply;
+
+// Copies src into dst from a place on.
+fn copy_to(dst: &mut [u8], at: usize, src: &[u8])
+    requires { ⌜ at + length (now src) ≤ length (now dst) ⌝ }
+    ensures { λ _. ⌜ now (dst .exit) ≡ paste (now (dst .entry)) at (now (src .entry)) (length (now (src .entry))) ⌝ }
+{
+    let end = at + src.len();
+    bytes::copy(src, &mut dst[at..end]);
+}
+
+// Puts a reply at the front of the room.
+pub fn put(room: &mut [u8], r: Reply)
+    requires { ⌜ 129 ≤ length (now room) ⌝ }
+    requires { ⌜ r .len ≤ 128 ⌝ }
+    ensures { λ _. ⌜ now (room .exit) ≡ putIn (now (room .entry)) (sent r) ⌝ }
+{
+    let n = r.len;
+    let body = r.body;
+    room[0] = r.header;
+    copy_to(room, 1, &body[..n]);
+}
+
+// Puts the program bytes that a block carries in RAM.
+pub fn store(ram: &mut [u8], f: Frame, size: u32, block: u32)
+    requires { ⌜ placeOf block + countIn size block ≤ length (now ram) ⌝ }
+    ensures { λ _. ⌜ now (ram .exit) ≡ storedIn (now (ram .entry)) (bytesOf f) size block ⌝ }
+{
+    let n = protocol::count_in(size, block);
+    let at = protocol::place_of(block);
+    let body = f.body;
+    copy_to(ram, at, &body[1..n + 1]);
+}
+
+// Measures the program: BLAKE2s-256 of the first n bytes of RAM.
+pub fn measure(ram: &[u8], n: usize) -> [u8; 32]
+    requires { ⌜ (n ≤ length (now ram)) × (n ≤ 131072) ⌝ }
+    ensures { λ r. ⌜ r ≡ blake2s [] (take n (now (ram .entry))) 32 ⌝ }
+{
+    let mut digest = [0u8; 32];
+    let key = [0u8; 1];
+    blake2s::hash(&key[..0], &ram[..n], &mut digest);
+    digest
+}
+
+// Byte i of eight words, lowest byte of each first.
+fn byte_at(words: &[u32], i: usize) -> u8
+    requires { ⌜ (i < 32) × (length (now words) ≡ 8) ⌝ }
+    ensures { λ r. ⌜ r ≡ getD (now (words .entry)) (i / 4) 0 / 2 ^ (8 * (i % 4)) % 2 ^ 8 ⌝ }
+{
+    byte_of(words[i / 4], (8 * (i % 4)) as u32)
+}
+
+// The byte of a word from bit k on.
+fn byte_of(w: u32, k: u32) -> u8
+    requires { ⌜ k < 32 ⌝ }
+    ensures { λ r. ⌜ r ≡ w / 2 ^ k % 2 ^ 8 ⌝ }
+{
+    ((w >> k) % 256) as u8
+}
+
+// The device secret as bytes.
+pub fn secret_bytes(words: &[u32]) -> [u8; 32]
+    requires { ⌜ length (now words) ≡ 8 ⌝ }
+    ensures { λ r. ⌜ r ≡ bytes (now (words .entry)) ⌝ }
+{
+    let mut secret = [0u8; 32];
+    let mut i = 0;
+    while i < 32 {
+        let b = byte_at(words, i);
+        secret[i] = b;
+        i += 1;
+    }
+    secret
+}
+
+// Sets each word to zero.
+pub fn clear(words: &mut [u32])
+    ensures { λ _. ⌜ now (words .exit) ≡ replicate (length (now (words .entry))) 0 ⌝ }
+{
+    let mut i = 0;
+    while i < words.len() {
+        words[i] = 0;
+        i += 1;
+    }
+}
+
+// Whether two slices hold the same bytes.
+pub fn equal(a: &[u8], b: &[u8]) -> bool
+    ensures { λ r. ⌜ r ≡ same (now (a .entry)) (now (b .entry)) ⌝ }
+{
+    check::same(a, b)
+}

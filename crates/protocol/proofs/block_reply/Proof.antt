@@ -1,0 +1,12 @@
+-- Zeros with the code at the front are the code filled up with zeros.
+use Rattle.protocol.specs.Replies.{blockReply}
+use borrow.Author.Needs.{needs}
+use Rattle.protocol.proofs.block_reply.Statement.{statement}
+use Rattle.protocol.proofs.block_reply.Tie as tie
+
+returns : tie.Need-returns
+unfolding blockReply
+returns c = c .with-body .ensures
+
+pub block-reply-spec : {M : Type 1} → statement M
+block-reply-spec = tie.close (tie.spec (λ c. search needs) (λ c κs. search needs) returns)

@@ -1,0 +1,197 @@
+// The firmware protocol: what a load and a block say, and each reply as a value.
+// Document 01, "Commands and replies", in the terms of specs/Commands.antt and specs/Replies.antt.
+ghost use mathlib.Core.Path.{_≡_};
+ghost use Prim.Native.Nat.{_+_, _*_, _^_};
+ghost use lib.ListN.{take, drop};
+ghost use Rattle.protocol.specs.Commands.{bytesOf, loadIn, goodLoad, usesUss, blocksFor, placeOf, countIn, isLast};
+ghost use Rattle.protocol.specs.Replies.{replyHeader, replyWith, nameReply, udiReply, loadReply, blockReply, digestReply};
+
+// A frame: its header, and its body at the front of 128 bytes.
+pub struct Frame {
+    pub header: u8,
+    pub body: [u8; 128],
+}
+
+// What a load says: the program's size, the user secret's flag and the user secret (USS).
+pub struct Load {
+    pub size: u32,
+    pub flag: u8,
+    pub uss: [u8; 32],
+}
+
+// A reply: its header, the length of its body, and the body, filled up with zeros.
+pub struct Reply {
+    pub header: u8,
+    pub len: usize,
+    pub body: [u8; 128],
+}
+
+// Four bytes as a number, lowest first.
+fn little_endian(a: u8, b: u8, c: u8, d: u8) -> u32
+    ensures { λ r. ⌜ r ≡ a + b * 2 ^ 8 + c * 2 ^ 16 + d * 2 ^ 24 ⌝ }
+{
+    (a as u32) + (b as u32) * 256 + (c as u32) * 65536 + (d as u32) * 16777216
+}
+
+// The user secret in a load's body.
+fn uss_in(body: [u8; 128]) -> [u8; 32]
+    ensures { λ r. ⌜ r ≡ take 32 (drop 6 body) ⌝ }
+{
+    let mut uss = [0u8; 32];
+    bytes::copy(&body[6..38], &mut uss);
+    uss
+}
+
+// Reads a load.
+pub fn read_load(f: Frame) -> Load
+    ensures { λ r. ⌜ r ≡ loadIn (bytesOf f) ⌝ }
+{
+    let body = f.body;
+    Load {
+        size: little_endian(body[1], body[2], body[3], body[4]),
+        flag: body[5],
+        uss: uss_in(body),
+    }
+}
+
+// Whether a load is taken by a head with this much RAM.
+pub fn load_is_good(l: Load, ram_len: usize) -> bool
+    ensures { λ r. ⌜ r ≡ goodLoad «ram_len» l ⌝ }
+{
+    let size = l.size as usize;
+    if size == 0 {
+        return false;
+    }
+    size <= ram_len
+}
+
+// Whether the user secret is used.
+pub fn uses_uss(l: Load) -> bool
+    ensures { λ r. ⌜ r ≡ usesUss l ⌝ }
+{
+    l.flag == 1
+}
+
+// How many blocks a program takes.
+pub fn blocks_for(size: u32) -> usize
+    ensures { λ r. ⌜ r ≡ blocksFor size ⌝ }
+{
+    (size as usize + 126) / 127
+}
+
+// Where in a program a block's bytes stand.
+pub fn place_of(block: u32) -> usize
+    ensures { λ r. ⌜ r ≡ placeOf block ⌝ }
+{
+    127 * (block as usize)
+}
+
+// How many bytes of a program a block carries.
+pub fn count_in(size: u32, block: u32) -> usize
+    ensures { λ r. ⌜ r ≡ countIn size block ⌝ }
+{
+    let from = place_of(block);
+    let size = size as usize;
+    if size <= from {
+        return 0;
+    }
+    let left = size - from;
+    if left < 127 {
+        return left;
+    }
+    127
+}
+
+// Whether a block is a program's last one.
+pub fn is_last(size: u32, block: u32) -> bool
+    ensures { λ r. ⌜ r ≡ isLast size block ⌝ }
+{
+    blocks_for(size) == block as usize + 1
+}
+
+// The header of the reply to a command with this header.
+fn reply_header(header: u8, len: usize) -> u8
+    ensures { λ r. ⌜ r ≡ replyHeader header len ⌝ }
+{
+    match framing::write_header(header / 32 % 4, 2, len) {
+        framing::Written::Byte(b) => b,
+        framing::Written::Refused => 0,
+    }
+}
+
+// A reply with these bytes in its body.
+fn with_body(header: u8, len: usize, body: [u8; 128]) -> Reply
+    ensures { λ r. ⌜ r ≡ replyWith header len body ⌝ }
+{
+    Reply {
+        header: reply_header(header, len),
+        len,
+        body,
+    }
+}
+
+// "tk1 ", "mkdf", version 1.
+pub fn name_reply(header: u8) -> Reply
+    ensures { λ r. ⌜ r ≡ nameReply header ⌝ }
+{
+    let name = [
+        0x02u8,
+        0x74,
+        0x6b,
+        0x31,
+        0x20,
+        0x6d,
+        0x6b,
+        0x64,
+        0x66,
+        1,
+        0,
+        0,
+        0,
+    ];
+    let mut body = [0u8; 128];
+    bytes::copy(&name, &mut body[..13]);
+    with_body(header, 32, body)
+}
+
+// The device's identity.
+pub fn udi_reply(header: u8, udi: [u8; 8]) -> Reply
+    ensures { λ r. ⌜ r ≡ udiReply header udi ⌝ }
+{
+    let mut body = [0u8; 128];
+    body[0] = 0x09;
+    bytes::copy(&udi, &mut body[2..10]);
+    with_body(header, 32, body)
+}
+
+// Whether a load was taken: status 0 or 1.
+pub fn load_reply(header: u8, good: bool) -> Reply
+    ensures { λ r. ⌜ r ≡ loadReply header good ⌝ }
+{
+    let mut body = [0u8; 128];
+    body[0] = 0x04;
+    if good {
+        return with_body(header, 4, body);
+    }
+    body[1] = 1;
+    with_body(header, 4, body)
+}
+
+// A block that is not the last was stored.
+pub fn block_reply(header: u8) -> Reply
+    ensures { λ r. ⌜ r ≡ blockReply header ⌝ }
+{
+    let mut body = [0u8; 128];
+    body[0] = 0x06;
+    with_body(header, 4, body)
+}
+
+// The last block was stored: the program's digest.
+pub fn digest_reply(header: u8, digest: [u8; 32]) -> Reply
+    ensures { λ r. ⌜ r ≡ digestReply header digest ⌝ }
+{
+    let mut body = [0u8; 128];
+    body[0] = 0x07;
+    bytes::copy(&digest, &mut body[2..34]);
+    with_body(header, 128, body)
+}
