@@ -1,12 +1,12 @@
 -- Laws of lists that the proofs share.
 use mathlib.Core.Path.{_≡_, refl, ap, ap₂, subst}
-use mathlib.Core.List.{List, [], _∷_, _++_, foldl}
+use mathlib.Core.List.{List, [], _∷_, _++_, append-nil, foldl}
 use Prim.Native.Nat.{ℕ, zero, suc, _+_, _-_, _<_}
 use native.Mathlib.Nat.{zero-add, sub-zero, zero-sub, suc-sub-suc, le-of-suc-le-suc}
 use native.Mathlib.Omega.{arith}
 use native.Mathlib.Numerals.{add-one}
 use lib.ListN.{length, getD, set, take, drop, replicate, length-drop}
-use lib.Seq.{paste-suc, take-all}
+use lib.Seq.{paste-suc, take-all, take-length, slice-empty}
 use Rattle.blake2s.specs.Rfc7693.{each}
 
 -- a list is the list of its elements
@@ -54,3 +54,7 @@ empty (x ∷ xs) e = absurd (omega arith)
 pub foldl-snoc : {A B : Type 0} (f : B → A → B) (b : B) (l : List A) (x : A) → foldl f b (l ++ x ∷ []) ≡ f (foldl f b l) x
 foldl-snoc f b [] x = refl
 foldl-snoc f b (y ∷ ys) x = foldl-snoc f (f b y) ys x
+
+-- what a part of n bytes holds after as many are copied to it
+pub copied : (s d : List ℕ) (n : ℕ) → length s ≡ n → take (length s) s ++ drop (length s) (take n d) ≡ s
+copied s d n e = rw (take-length s, e, slice-empty n d) (append-nil s)

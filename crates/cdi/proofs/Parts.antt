@@ -4,12 +4,8 @@ use mathlib.Core.List.{List, [], _∷_, _++_, append-assoc, append-nil}
 use Prim.Native.Nat.{ℕ}
 use native.Mathlib.Omega.{arith}
 use lib.ListN.{length, take, drop, set, replicate, length-append}
-use lib.Seq.{take-at, drop-at, take-length, slice-empty, append-snoc, set-at}
+use lib.Seq.{take-at, drop-at, append-snoc, set-at}
 use borrow.Rule.Slice.PartMut.{putMid}
-
--- what a part of n bytes holds after as many are copied to it
-pub copied : (s d : List ℕ) (n : ℕ) → length s ≡ n → take (length s) s ++ drop (length s) (take n d) ≡ s
-copied s d n e = rw (take-length s, e, slice-empty n d) (append-nil s)
 
 -- p is written, and s takes the place of n bytes after it
 next : (p z s : List ℕ) (a n : ℕ) → length p ≡ a → putMid a n (p ++ z) s ≡ p ++ s ++ drop n z

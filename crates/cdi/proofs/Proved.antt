@@ -25,18 +25,18 @@ used-of false true = refl
 used-of true false = refl
 used-of true true = refl
 
-seed-of : (u s : Bool) → eqb (domainOf u s / 2) 1 ≡ s
-seed-of false false = refl
-seed-of false true = refl
-seed-of true false = refl
-seed-of true true = refl
+chained-of : (u s : Bool) → eqb (domainOf u s / 2) 1 ≡ s
+chained-of false false = refl
+chained-of false true = refl
+chained-of true false = refl
+chained-of true true = refl
 
 module _ (x : Inputs) where
   abbrev dom : ℕ
-  dom = domainOf (x .used) (x .seed)
+  dom = domainOf (x .used) (x .chained)
 
   abbrev measurement : List ℕ
-  measurement = measurementOf (x .seed) (x .measuredId) (x .digest)
+  measurement = measurementOf (x .chained) (x .measuredId) (x .digest)
 
   abbrev secret : List ℕ
   secret = cond (x .used) (x .uss) []
@@ -46,7 +46,7 @@ module _ (x : Inputs) where
   start = x .uds ++ dom ∷ measurement
 
   measurement-length : length measurement ≡ 32
-  measurement-length = go (x .seed)
+  measurement-length = go (x .chained)
     where
       go : (b : Bool) → length (measurementOf b (x .measuredId) (x .digest)) ≡ 32
       go true = x .measuredId-length
@@ -70,8 +70,8 @@ module _ (x : Inputs) where
 pub cdi : Cdi
 unfolding cdiString
 cdi = record {
-  direct = λ x s u. (domain-at x ∙ rw (s, u), string-length x ∙ rw u);
-  chained = λ x s u. (domain-at x ∙ rw (s, u), string-length x ∙ rw u);
+  p11 = λ x s u. (domain-at x ∙ rw (s, u), string-length x ∙ rw u);
+  p12 = λ x s u. (domain-at x ∙ rw (s, u), string-length x ∙ rw u);
   domain = domain-at;
   size = string-length;
   injective = λ x y e.
@@ -79,9 +79,9 @@ cdi = record {
       let t : dom x ∷ measurement x ≡ dom y ∷ measurement y = back (x .uds) (y .uds) _ _ 32 (x .uds-length) (y .uds-length) f in
       let d : dom x ≡ dom y = cc in (
         front (x .uds) (y .uds) _ _ 32 (x .uds-length) (y .uds-length) f,
-        sym (seed-of (x .used) (x .seed)) ∙ ap (λ (n : ℕ). eqb (n / 2) 1) d ∙ seed-of (y .used) (y .seed),
+        sym (chained-of (x .used) (x .chained)) ∙ ap (λ (n : ℕ). eqb (n / 2) 1) d ∙ chained-of (y .used) (y .chained),
         cc,
-        sym (used-of (x .used) (x .seed)) ∙ ap (λ (n : ℕ). eqb (n % 2) 1) d ∙ used-of (y .used) (y .seed),
+        sym (used-of (x .used) (x .chained)) ∙ ap (λ (n : ℕ). eqb (n % 2) 1) d ∙ used-of (y .used) (y .chained),
         back (start x) (start y) (secret x) (secret y) 65 (start-length x) (start-length y) e,
       );
 }

@@ -9,7 +9,7 @@ use Rattle.cdi.specs.Cdi.{domainOf, measurementOf, cdiString}
 -- what a CDI is derived from
 pub record Inputs : Type 0 where
   pub uds : List ℕ
-  pub seed : Bool
+  pub chained : Bool
   pub measuredId : List ℕ
   pub digest : List ℕ
   pub used : Bool
@@ -21,17 +21,17 @@ pub record Inputs : Type 0 where
   pub uss-length : length uss ≡ 32
 
 abbrev pub stringOf : Inputs → List ℕ
-stringOf x = cdiString (x .uds) (x .seed) (x .measuredId) (x .digest) (x .used) (x .uss)
+stringOf x = cdiString (x .uds) (x .chained) (x .measuredId) (x .digest) (x .used) (x .uss)
 
 pub record Cdi : Type 0 where
   -- P11, direct without a user secret: domain 0 and 65 bytes
-  pub direct : (x : Inputs) → x .seed ≡ false → x .used ≡ false → (getD (stringOf x) 32 0 ≡ 0) × (length (stringOf x) ≡ 65)
+  pub p11 : (x : Inputs) → x .chained ≡ false → x .used ≡ false → (getD (stringOf x) 32 0 ≡ 0) × (length (stringOf x) ≡ 65)
   -- P12, chained with a user secret: domain 3 and 97 bytes
-  pub chained : (x : Inputs) → x .seed ≡ true → x .used ≡ true → (getD (stringOf x) 32 0 ≡ 3) × (length (stringOf x) ≡ 97)
+  pub p12 : (x : Inputs) → x .chained ≡ true → x .used ≡ true → (getD (stringOf x) 32 0 ≡ 3) × (length (stringOf x) ≡ 97)
   -- in general
-  pub domain : (x : Inputs) → getD (stringOf x) 32 0 ≡ domainOf (x .used) (x .seed)
+  pub domain : (x : Inputs) → getD (stringOf x) 32 0 ≡ domainOf (x .used) (x .chained)
   pub size : (x : Inputs) → length (stringOf x) ≡ cond (x .used) 97 65
   -- no two inputs give the same string, but for what is not used of them
   pub injective : (x y : Inputs) → stringOf x ≡ stringOf y
-      → (x .uds ≡ y .uds) × (x .seed ≡ y .seed) × (measurementOf (x .seed) (x .measuredId) (x .digest) ≡ measurementOf (y .seed) (y .measuredId) (y .digest))
+      → (x .uds ≡ y .uds) × (x .chained ≡ y .chained) × (measurementOf (x .chained) (x .measuredId) (x .digest) ≡ measurementOf (y .chained) (y .measuredId) (y .digest))
       × (x .used ≡ y .used) × (cond (x .used) (x .uss) [] ≡ cond (y .used) (y .uss) [])

@@ -9,16 +9,16 @@ ghost use Rattle.blake2s.specs.Rfc7693.{blake2s};
 ghost use Rattle.cdi.specs.Cdi.{domainOf, cdiString, cdiOf};
 
 // The domain byte.
-fn domain(uss_used: bool, reset_seed: bool) -> u8
-    ensures { λ r. ⌜ r ≡ domainOf «uss_used» «reset_seed» ⌝ }
+fn domain(uss_used: bool, chained: bool) -> u8
+    ensures { λ r. ⌜ r ≡ domainOf «uss_used» chained ⌝ }
 {
     if uss_used {
-        if reset_seed {
+        if chained {
             return 3;
         }
         return 1;
     }
-    if reset_seed {
+    if chained {
         return 2;
     }
     0
@@ -48,10 +48,10 @@ fn digest(msg: &[u8]) -> [u8; 32]
 }
 
 // The measurement: measured_id where the CDI is chained to it, and otherwise the program's digest.
-fn measurement(reset_seed: bool, measured_id: [u8; 32], digest: [u8; 32]) -> [u8; 32]
-    ensures { λ r. ⌜ r ≡ cond «reset_seed» «measured_id» digest ⌝ }
+fn measurement(chained: bool, measured_id: [u8; 32], digest: [u8; 32]) -> [u8; 32]
+    ensures { λ r. ⌜ r ≡ cond chained «measured_id» digest ⌝ }
 {
-    if reset_seed {
+    if chained {
         return measured_id;
     }
     digest
@@ -60,16 +60,16 @@ fn measurement(reset_seed: bool, measured_id: [u8; 32], digest: [u8; 32]) -> [u8
 // Derives the CDI.
 pub fn derive(
     uds: [u8; 32],
-    reset_seed: bool,
+    chained: bool,
     measured_id: [u8; 32],
     digest: [u8; 32],
     uss_used: bool,
     uss: [u8; 32],
 ) -> [u8; 32]
-    ensures { λ r. ⌜ r ≡ cdiOf uds «reset_seed» «measured_id» digest «uss_used» uss ⌝ }
+    ensures { λ r. ⌜ r ≡ cdiOf uds chained «measured_id» digest «uss_used» uss ⌝ }
 {
-    let m = measurement(reset_seed, measured_id, digest);
-    let b = string(uds, domain(uss_used, reset_seed), m, uss);
+    let m = measurement(chained, measured_id, digest);
+    let b = string(uds, domain(uss_used, chained), m, uss);
     if uss_used {
         return self::digest(&b);
     }

@@ -8,10 +8,10 @@ use native.Mathlib.Nat.{add-comm}
 use native.Mathlib.Numerals.{add-one}
 use lib.Dec.{eqb}
 use lib.ListN.{length, getD, take, drop, set, length-take, drop-of-length-le}
-use lib.Seq.{paste, take-all, drop-drop}
+use lib.Seq.{paste, take-all, take-length, drop-drop}
 use borrow.Author.Tests.{eq-eqb, eqb-true}
 use Rattle.blake2s.specs.Rfc7693.{bytes}
-use Rattle.blake2s.proofs.Lists.{length-each}
+use Rattle.blake2s.proofs.Lists.{length-each, copied}
 use Rattle.loader.specs.State.{same}
 use Rattle.loader.specs.Machine.{putIn}
 
@@ -39,9 +39,9 @@ same-is false xs ys f g = go (same xs ys) refl
     go false p = refl
 
 -- all of s copied over the k bytes of d from a place on
-pub put-part : (d s part : List ℕ) (at k : ℕ) → k ≡ length s → length part ≤ length s
-    → take at d ++ ((take (length s) s ++ drop (length s) part) ++ drop k (drop at d)) ≡ paste d at s (length s)
-put-part d s part at k e h = rw (e, drop-of-length-le part {i = length s} h, append-nil, drop-drop, append-assoc)
+pub put-part : (d s : List ℕ) (at k : ℕ) → k ≡ length s
+    → take at d ++ ((take (length s) s ++ drop (length s) (take k (drop at d))) ++ drop k (drop at d)) ≡ paste d at s (length s)
+put-part d s at k e = rw (copied s (drop at d) k (sym e), e, drop-drop, append-assoc, take-length s)
 
 -- a reply at the front of a room
 pub put-front : (room body : List ℕ) (h : ℕ) → 0 < length room → paste (set room 0 h) 1 body (length body) ≡ putIn room (h ∷ body)

@@ -60,15 +60,7 @@ fn byte_at(words: &[u32], i: usize) -> u8
     requires { ⌜ (i < 32) × (length (now words) ≡ 8) ⌝ }
     ensures { λ r. ⌜ r ≡ getD (now (words .entry)) (i / 4) 0 / 2 ^ (8 * (i % 4)) % 2 ^ 8 ⌝ }
 {
-    byte_of(words[i / 4], (8 * (i % 4)) as u32)
-}
-
-// The byte of a word from bit k on.
-fn byte_of(w: u32, k: u32) -> u8
-    requires { ⌜ k < 32 ⌝ }
-    ensures { λ r. ⌜ r ≡ w / 2 ^ k % 2 ^ 8 ⌝ }
-{
-    ((w >> k) % 256) as u8
+    endian::byte(words[i / 4], i % 4)
 }
 
 // The device secret as bytes.

@@ -1,7 +1,6 @@
 // The firmware protocol: what a load and a block say, and each reply as a value.
 // Document 01, "Commands and replies", in the terms of specs/Commands.antt and specs/Replies.antt.
 ghost use mathlib.Core.Path.{_≡_};
-ghost use Prim.Native.Nat.{_+_, _*_, _^_};
 ghost use lib.ListN.{take, drop};
 ghost use Rattle.protocol.specs.Commands.{bytesOf, loadIn, goodLoad, usesUss, blocksFor, placeOf, countIn, isLast};
 ghost use Rattle.protocol.specs.Replies.{replyHeader, replyWith, nameReply, udiReply, loadReply, blockReply, digestReply};
@@ -26,13 +25,6 @@ pub struct Reply {
     pub body: [u8; 128],
 }
 
-// Four bytes as a number, lowest first.
-fn little_endian(a: u8, b: u8, c: u8, d: u8) -> u32
-    ensures { λ r. ⌜ r ≡ a + b * 2 ^ 8 + c * 2 ^ 16 + d * 2 ^ 24 ⌝ }
-{
-    (a as u32) + (b as u32) * 256 + (c as u32) * 65536 + (d as u32) * 16777216
-}
-
 // The user secret in a load's body.
 fn uss_in(body: [u8; 128]) -> [u8; 32]
     ensures { λ r. ⌜ r ≡ take 32 (drop 6 body) ⌝ }
@@ -48,7 +40,7 @@ pub fn read_load(f: Frame) -> Load
 {
     let body = f.body;
     Load {
-        size: little_endian(body[1], body[2], body[3], body[4]),
+        size: endian::number(body[1], body[2], body[3], body[4]),
         flag: body[5],
         uss: uss_in(body),
     }

@@ -1,7 +1,7 @@
 -- A field of four bytes as a number, and the numbers of no type.
 use mathlib.Core.Path.{_≡_, _∙_}
-use mathlib.Core.List.{List}
-use Prim.Native.Nat.{ℕ, _+_, _*_, _^_, _<_, _≤_}
+use mathlib.Core.List.{List, [], _∷_}
+use Prim.Native.Nat.{ℕ, _+_, _<_, _≤_}
 use native.Mathlib.Nat.{add-zero}
 use native.Mathlib.Omega.{arith}
 use lib.ListN.{getD, take, drop}
@@ -12,7 +12,7 @@ use Rattle.record.specs.Record.{resetType}
 use Rattle.record.specs.declared.ResetType.the-variants.{Unknown}
 
 pub word-at : (l : List ℕ) (f : ℕ)
-    → word (take 4 (drop f l)) 0 ≡ getD l f 0 + getD l (f + 1) 0 * 2 ^ 8 + getD l (f + 2) 0 * 2 ^ 16 + getD l (f + 3) 0 * 2 ^ 24
+    → word (take 4 (drop f l)) 0 ≡ word (getD l f 0 ∷ getD l (f + 1) 0 ∷ getD l (f + 2) 0 ∷ getD l (f + 3) 0 ∷ []) 0
 unfolding word
 word-at l f =
     let g : (i : ℕ) → i < 4 → getD (take 4 (drop f l)) i 0 ≡ getD l (f + i) 0 = λ i h. getD-take 4 (drop f l) i 0 h ∙ getD-drop f l i 0 in

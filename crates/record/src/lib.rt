@@ -1,7 +1,7 @@
 // The reset record, which the program before a reset leaves for the loader.
 // Document 01, "Reset record and lent memory", in the terms of specs/Record.antt.
 ghost use mathlib.Core.Path.{_≡_};
-ghost use Prim.Native.Nat.{_+_, _*_, _^_, _≤_};
+ghost use Prim.Native.Nat.{_+_, _≤_};
 ghost use lib.ListN.{length, take, drop};
 ghost use Rattle.record.specs.Record.{resetType, recordAt};
 
@@ -42,13 +42,6 @@ fn type_of(n: u32) -> ResetType
     }
 }
 
-// Four bytes as a number, lowest first.
-fn little_endian(a: u8, b: u8, c: u8, d: u8) -> u32
-    ensures { λ r. ⌜ r ≡ a + b * 2 ^ 8 + c * 2 ^ 16 + d * 2 ^ 24 ⌝ }
-{
-    (a as u32) + (b as u32) * 256 + (c as u32) * 65536 + (d as u32) * 16777216
-}
-
 // 32 bytes from a place on.
 fn part(bytes: &[u8], from: usize) -> [u8; 32]
     requires { ⌜ from + 32 ≤ length (now bytes) ⌝ }
@@ -63,8 +56,8 @@ fn part(bytes: &[u8], from: usize) -> [u8; 32]
 pub fn read(bytes: [u8; 256]) -> Record
     ensures { λ r. ⌜ r ≡ recordAt bytes ⌝ }
 {
-    let reset_type = type_of(little_endian(bytes[0], bytes[1], bytes[2], bytes[3]));
-    let mask = little_endian(bytes[4], bytes[5], bytes[6], bytes[7]);
+    let reset_type = type_of(endian::number(bytes[0], bytes[1], bytes[2], bytes[3]));
+    let mask = endian::number(bytes[4], bytes[5], bytes[6], bytes[7]);
     Record {
         reset_type,
         reset_seed: mask % 2 == 1,

@@ -4,7 +4,8 @@ use mathlib.Core.List.{_++_}
 use native.Mathlib.Omega.{arith}
 use lib.ListN.{length, drop, set, replicate, length-set, length-append}
 use borrow.Rule.Slice.PartMut.{putMid, same-len-mid}
-use Rattle.cdi.proofs.Parts.{copied, whole}
+use Rattle.blake2s.proofs.Lists.{copied}
+use Rattle.cdi.proofs.Parts.{whole}
 use borrow.Author.Needs.{needs}
 use Rattle.cdi.proofs.string.Statement.{statement}
 use Rattle.cdi.proofs.string.Tie as tie

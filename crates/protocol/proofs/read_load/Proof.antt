@@ -7,7 +7,7 @@ use Rattle.protocol.proofs.read_load.Tie as tie
 
 returns : tie.Need-returns
 unfolding loadIn word
-returns c = rw (c .uss-in .ensures, c .before .little-endian .ensures)
+returns c = rw (c .uss-in .ensures, c .before .number .ensures)
 
 pub read-load-spec : {M : Type 1} → statement M
 read-load-spec =

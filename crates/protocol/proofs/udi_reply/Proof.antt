@@ -1,7 +1,6 @@
 -- The bytes stand after code and status, and what was not written is zero.
-use native.Mathlib.Omega.{arith}
 use lib.ListN.{length, replicate}
-use Rattle.protocol.proofs.Copies.{copied}
+use Rattle.blake2s.proofs.Lists.{copied}
 use mathlib.Core.Path.{_≡_, _∙_}
 use Rattle.protocol.specs.Replies.{udiReply}
 use borrow.Author.Needs.{needs}
@@ -13,7 +12,7 @@ unfolding udiReply
 returns c =
     let s = c .before .before .before .before .before .args .t2 in
     let l : length s ≡ 8 = search needs in
-    let e = c .before .before .copy .ensures .1 ∙ copied s (replicate 8 0) (omega arith) in
+    let e = c .before .before .copy .ensures .1 ∙ copied s (replicate 8 0) 8 l in
     c .with-body .ensures ∙ rw (e, l)
 
 pub udi-reply-spec : {M : Type 1} → statement M

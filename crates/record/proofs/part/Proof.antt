@@ -1,10 +1,10 @@
 -- The copy of 32 bytes leaves none of the 32 zeros.
 use mathlib.Core.Path.{_≡_}
-use mathlib.Core.List.{append-nil}
 use Prim.Native.Nat.{_+_, _-_}
 use native.Mathlib.Omega.{arith}
-use lib.ListN.{length, take, drop, length-drop}
-use lib.Seq.{length-take-le, take-length}
+use lib.ListN.{length, take, drop, replicate, length-drop}
+use lib.Seq.{length-take-le}
+use Rattle.blake2s.proofs.Lists.{copied}
 use borrow.Author.Needs.{needs}
 use Rattle.record.proofs.part.Statement.{statement}
 use Rattle.record.proofs.part.Tie as tie
@@ -16,7 +16,7 @@ returns c =
     let l = drop f (s .args .bytes .now) in
     let n : f + 32 - f ≡ 32 = omega arith in
     let e : length (take 32 l) ≡ 32 = length-take-le 32 l (rw length-drop (omega (arith, s .pre))) in
-    rw (c .before .copy .ensures .1, n, take-length (take 32 l), e) (append-nil (take 32 l))
+    rw (c .before .copy .ensures .1, n) (copied (take 32 l) (replicate 32 0) 32 e)
 
 pub part-spec : {M : Type 1} → statement M
 part-spec =

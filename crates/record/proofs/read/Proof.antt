@@ -15,9 +15,9 @@ returns c =
     rw (
       c .part2 .ensures,
       p .part .ensures,
-      m .little-endian2 .ensures,
+      m .number2 .ensures,
       t .type-of .ensures,
-      t .before .little-endian .ensures,
+      t .before .number .ensures,
       word-at l 0,
       word-at l 4,
     )

@@ -1,7 +1,7 @@
 -- The part is filled whole.
 use Rattle.loader.proofs.Bytes.{put-part}
-use Prim.Native.Nat.{_+_, _-_, _≤_}
-use lib.ListN.{length, take, drop, length-take, length-drop}
+use Prim.Native.Nat.{_+_, _-_}
+use lib.ListN.{length}
 use native.Mathlib.Omega.{arith}
 use mathlib.Core.Path.{_≡_}
 use borrow.Author.Needs.{needs}
@@ -13,9 +13,7 @@ returns c = let a = c .before .before .before .before .before .before .args in
     let s = a .src .now in
     let d = a .dst .now in
     let n : a .at + length s - a .at ≡ length s = omega arith in
-    let part = take (a .at + length s - a .at) (drop (a .at) d) in
-    let l : length part ≤ length s = rw (n, length-take, length-drop) (omega arith) in
-    rw (c .before .before .copy .ensures .1) (put-part d s part (a .at) (a .at + length s - a .at) n l)
+    rw (c .before .before .copy .ensures .1) (put-part d s (a .at) (a .at + length s - a .at) n)
 
 pub copy-to-spec : {M : Type 1} → statement M
 copy-to-spec =
