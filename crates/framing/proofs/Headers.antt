@@ -60,7 +60,7 @@ code-of-known n (inr (inr (inl e))) = rw e (omega arith)
 code-of-known n (inr (inr (inr e))) = rw e (omega arith)
 
 -- the byte of fields in range
-written : (id ep n : ℕ) → id < 4 → ep < 4 → codeOf n < 4 → headerByte id ep n ≡ byte (id * 32 + ep * 8 + codeOf n)
+pub written : (id ep n : ℕ) → id < 4 → ep < 4 → codeOf n < 4 → headerByte id ep n ≡ byte (id * 32 + ep * 8 + codeOf n)
 unfolding headerByte
 written id ep n hi he hc = simp (lt-ltb id 4 hi, lt-ltb ep 4 he, lt-ltb (codeOf n) 4 hc, mul-one)
 

@@ -1,6 +1,6 @@
 -- Which commands a phase does not allow.
 use Prim.Native.Nat.{ℕ}
-use mathlib.Core.Path.{_≡_, sym, subst}
+use mathlib.Core.Path.{_≡_, subst}
 use mathlib.Core.List.{List}
 use borrow.Author.Tests.{ne-eqb}
 use types.Run.{OneOf}

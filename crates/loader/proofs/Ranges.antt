@@ -1,15 +1,15 @@
 -- What a state in range has.
-use Prim.Native.Nat.{ℕ, zero, suc, _+_, _-_, _*_, _/_, _%_, _<_, _≤_, min}
-use mathlib.Core.Bool.{Bool, true, false, not, cond, _&&_}
-use mathlib.Core.Path.{_≡_, refl, sym, _∙_}
+use Prim.Native.Nat.{ℕ, zero, suc, _+_, _-_, _*_, _/_, _%_, _<_, _≤_}
+use mathlib.Core.Bool.{Bool, true, false, cond, _&&_}
+use mathlib.Core.Path.{_≡_, refl, sym}
 use native.Mathlib.Omega.{arith}
-use lib.Dec.{eqb, leb, ltb}
-use borrow.Author.Tests.{eqb-true, eqb-false, ltb-true, leb-true}
-use Rattle.framing.specs.Header.{Reading, good, stop, headerAt, lengthOf}
+use lib.Dec.{eqb, leb}
+use borrow.Author.Tests.{eqb-true, ltb-true, leb-true}
+use Rattle.framing.specs.Header.{Reading, good, headerAt, lengthOf}
 use Rattle.framing.proofs.Headers.{by-bits}
 use Rattle.protocol.specs.Commands.{blocksFor, placeOf, countIn}
 use Rattle.loader.specs.State.{bodyLen, incomingOk, loadingOk, progressIn, progressOk, ramOk, inRange}
-use Rattle.loader.specs.Machine.{deedIn, deedWaiting, sized}
+use Rattle.loader.specs.Machine.{deedIn, deedWaiting}
 use Rattle.loader.specs.declared.Phase.{Phase}
 use Rattle.loader.specs.declared.Phase.the-variants.{Waiting, Loading, Started, Stopped}
 use Rattle.loader.specs.declared.acting.Deed.the-variants as deed
@@ -40,6 +40,20 @@ length-small (suc (suc (suc (suc c)))) h = absurd (omega arith)
 
 pub body-small : (h : ℕ) → bodyLen (headerAt h) ≤ 128
 body-small h = by-bits h (λ (r : Reading). bodyLen r ≤ 128) (λ p q. length-small (h / 1 % 4) (omega arith)) (λ g. omega arith)
+
+-- and at least one
+some-length : (c : ℕ) → c < 4 → 1 ≤ lengthOf c
+some-length zero h = omega arith
+some-length (suc zero) h = omega arith
+some-length (suc (suc zero)) h = omega arith
+some-length (suc (suc (suc zero))) h = omega arith
+some-length (suc (suc (suc (suc c)))) h = absurd (omega arith)
+
+pub length-some : (h id ep n : ℕ) → headerAt h ≡ good id ep n → 1 ≤ n
+length-some h id ep n =
+    by-bits h (λ (r : Reading). r ≡ good id ep n → 1 ≤ n)
+    (λ p q e. let l : lengthOf (h / 1 % 4) ≡ n = cc in let o = some-length (h / 1 % 4) (omega arith) in omega arith)
+    (λ g e. absurd (let w : _≡_ {A = ℕ} 0 1 = cc in omega arith))
 
 -- how many bytes of a frame have come, where one is being gathered
 pub incoming-got : (i : Incoming) → incomingOk i ≡ true → (i .got ≡ 0 → ⊥) → (1 ≤ i .got) × (i .got ≤ 128)
@@ -78,18 +92,23 @@ block-within p m l =
     omega arith
 
 -- only while loading is a block asked for
+pub no-block : (c n : ℕ) → deedWaiting c n ≡ deed.Block → ⊥
+no-block c n = go (eqb c 0x01) (eqb c 0x08) (eqb c 0x03) (eqb n 1) (eqb n 128)
+  where
+    go : (x y z t u : Bool)
+        → cond x (cond t deed.Name deed.WrongLength) (cond y (cond t deed.Udi deed.WrongLength) (cond z (cond u deed.Load deed.WrongLength) deed.NotAllowed)) ≡ deed.Block
+        → ⊥
+    go true y z true u e = let w : _≡_ {A = ℕ} 0 1 = cc in omega arith
+    go true y z false u e = let w : _≡_ {A = ℕ} 0 1 = cc in omega arith
+    go false true z true u e = let w : _≡_ {A = ℕ} 0 1 = cc in omega arith
+    go false true z false u e = let w : _≡_ {A = ℕ} 0 1 = cc in omega arith
+    go false false true t true e = let w : _≡_ {A = ℕ} 0 1 = cc in omega arith
+    go false false true t false e = let w : _≡_ {A = ℕ} 0 1 = cc in omega arith
+    go false false false t u e = let w : _≡_ {A = ℕ} 0 1 = cc in omega arith
+
 pub block-loading : (ph : Phase) (c n : ℕ) (p : Progress) (m : ℕ) → deedIn ph c n ≡ deed.Block → progressIn ph p m ≡ true → loadingOk p m ≡ true
 block-loading Loading c n p m e r = r
-block-loading Waiting c n p m e r = absurd (no-block (eqb c 0x01) (eqb c 0x08) (eqb c 0x03) (eqb n 1) (eqb n 128) e)
-  where
-    no-block : (x y z t u : Bool) → cond x (cond t deed.Name deed.WrongLength) (cond y (cond t deed.Udi deed.WrongLength) (cond z (cond u deed.Load deed.WrongLength) deed.NotAllowed)) ≡ deed.Block → ⊥
-    no-block true y z true u e = let w : _≡_ {A = ℕ} 0 1 = cc in omega arith
-    no-block true y z false u e = let w : _≡_ {A = ℕ} 0 1 = cc in omega arith
-    no-block false true z true u e = let w : _≡_ {A = ℕ} 0 1 = cc in omega arith
-    no-block false true z false u e = let w : _≡_ {A = ℕ} 0 1 = cc in omega arith
-    no-block false false true t true e = let w : _≡_ {A = ℕ} 0 1 = cc in omega arith
-    no-block false false true t false e = let w : _≡_ {A = ℕ} 0 1 = cc in omega arith
-    no-block false false false t u e = let w : _≡_ {A = ℕ} 0 1 = cc in omega arith
+block-loading Waiting c n p m e r = absurd (no-block c n e)
 block-loading Started c n p m e r = absurd (let w : _≡_ {A = ℕ} 0 1 = cc in omega arith)
 block-loading Stopped c n p m e r = absurd (let w : _≡_ {A = ℕ} 0 1 = cc in omega arith)
 

@@ -15,7 +15,7 @@ use Rattle.protocol.specs.declared.Load.{Load}
 use Rattle.protocol.specs.declared.Reply.{Reply}
 use Rattle.loader.specs.State.{zeros, bodyLen, inRange, live, ended}
 use Rattle.loader.specs.Answers.{refusalNumber, outcome}
-use Rattle.loader.specs.Machine.{plainly, between, frameOf, putIn, replying, loadOf, takes, loaded, loadAnswer, afterLoad, allowed, startOf, finishedWith, deedIn, performed, acted, refusal, withIncoming, gathered, afterByte, heard, refusing, step}
+use Rattle.loader.specs.Machine.{plainly, frameOf, putIn, replying, loadOf, takes, loaded, loadAnswer, afterLoad, allowed, startOf, finishedWith, deedIn, performed, acted, refusal, withIncoming, gathered, afterByte, heard, step}
 use Rattle.loader.specs.declared.Phase.the-variants as phase
 use Rattle.loader.specs.declared.Refusal.{Refusal}
 use Rattle.loader.specs.declared.Refusal.the-variants.{StateRange, Ended, ReplyRoom, RamLength, SecretLength}

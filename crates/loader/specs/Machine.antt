@@ -1,9 +1,9 @@
 -- What a byte does: document 01, "Header byte", "Commands and replies" and the table of refused calls.
 use Prim.Native.Nat.{ℕ, _+_, _-_}
-use mathlib.Core.Bool.{Bool, true, false, not, cond}
+use mathlib.Core.Bool.{Bool, true, not, cond}
 use mathlib.Core.List.{List, [], _++_}
 use lib.Dec.{eqb, ltb}
-use lib.ListN.{length, getD, take, drop, set}
+use lib.ListN.{length, take, drop, set}
 use lib.Seq.{paste}
 use Rattle.framing.specs.Header.{Reading, good, stop, headerAt}
 use Rattle.blake2s.specs.Rfc7693.{blake2s, bytes}
@@ -14,7 +14,7 @@ use Rattle.protocol.specs.declared.Frame.{Frame}
 use Rattle.protocol.specs.declared.Load.{Load}
 use Rattle.protocol.specs.declared.Reply.{Reply}
 use Rattle.loader.specs.State.{zeros, same, bodyLen, inRange, live, idle, ended}
-use Rattle.loader.specs.Answers.{Report, refused, Outcome, outcome}
+use Rattle.loader.specs.Answers.{refused, Outcome, outcome}
 use Rattle.loader.specs.declared.Phase.{Phase}
 use Rattle.loader.specs.declared.Phase.the-variants as phase
 use Rattle.loader.specs.declared.Incoming.{Incoming}
@@ -22,7 +22,7 @@ use Rattle.loader.specs.declared.Config.{Config}
 use Rattle.loader.specs.declared.Progress.{Progress}
 use Rattle.loader.specs.declared.State.{State}
 use Rattle.loader.specs.declared.Answer.{Answer}
-use Rattle.loader.specs.declared.Answer.the-variants.{Refused, Continue, Stopped, Started}
+use Rattle.loader.specs.declared.Answer.the-variants.{Continue, Stopped, Started}
 use Rattle.loader.specs.declared.Stop.the-variants.{HeaderBit, Command, BodyLength, Digest}
 use Rattle.loader.specs.declared.Received.{Received}
 use Rattle.loader.specs.declared.gathering.Step.{Step}

@@ -9,7 +9,6 @@ use Rattle.protocol.specs.Commands.{blocksFor}
 use Rattle.loader.specs.declared.Phase.{Phase}
 use Rattle.loader.specs.declared.Phase.the-variants.{Waiting, Loading, Started, Stopped}
 use Rattle.loader.specs.declared.Incoming.{Incoming}
-use Rattle.loader.specs.declared.Config.{Config}
 use Rattle.loader.specs.declared.Progress.{Progress}
 use Rattle.loader.specs.declared.State.{State}
 

@@ -73,15 +73,15 @@ fn continue_body(i: Incoming, endpoint: u8, len: u8, b: u8) -> Gathered
             incoming: keep(i, endpoint, b),
         };
     }
-    if endpoint == 2 {
+    if endpoint != 2 {
         return Gathered {
-            step: Step::Whole,
-            incoming: keep(i, endpoint, b),
+            step: Step::More,
+            incoming: super::states::idle(),
         };
     }
     Gathered {
-        step: Step::More,
-        incoming: super::states::idle(),
+        step: Step::Whole,
+        incoming: keep(i, endpoint, b),
     }
 }
 

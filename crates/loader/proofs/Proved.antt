@@ -1,0 +1,216 @@
+-- The theorem of specs/Theorems.antt. Each claim about a call is shown for each way that a call can go (`by-step`).
+use Prim.Native.Nat.{ℕ}
+use mathlib.Core.Bool.{true, cond}
+use mathlib.Core.Path.{_≡_, refl, sym, ap, _∙_}
+use mathlib.Core.List.{List}
+use native.Mathlib.Omega.{arith}
+use lib.Dec.{eqb}
+use borrow.Author.Tests.{ne-eqb, eq-eqb, le-leb}
+use Rattle.loader.specs.State.{zeros, incomingOk, progressOk, ramOk, inRange, ended}
+use Rattle.loader.specs.Answers.{refused, continues, stopped, started, refusalNumber, stopNumber, reportOf, Outcome}
+use Rattle.loader.specs.Machine.{startOf, refusing, step}
+use Rattle.loader.specs.Theorems.{Loader, number}
+use Rattle.loader.proofs.Ranges.{range-facts}
+use Rattle.loader.proofs.Ways.{by-step}
+use Rattle.loader.proofs.Frames.{frame-whole}
+use Rattle.loader.specs.declared.Phase.the-variants as phase
+use Rattle.loader.specs.declared.State.{State}
+use Rattle.loader.specs.declared.Refusal.{Refusal}
+use Rattle.loader.specs.declared.Refusal.the-variants.{StateRange, Ended, ReplyRoom, RamLength, SecretLength}
+use Rattle.loader.specs.declared.Stop.{Stop}
+use Rattle.loader.specs.declared.Stop.the-variants.{HeaderBit, Command, BodyLength, Digest}
+use Rattle.loader.specs.declared.Answer.{Answer}
+use Rattle.loader.specs.declared.Answer.the-variants.{Refused, Continue, Stopped, Started}
+
+-- two reports with different constructors are never equal
+apart : {A : Type 0} → _≡_ {A = ℕ} 0 1 → A
+apart e = absurd (omega arith)
+
+-- ---- the numbers settle the answer
+
+abbrev refusalOf : ℕ → Refusal
+refusalOf k = cond (eqb k 1) StateRange (cond (eqb k 2) Ended (cond (eqb k 3) ReplyRoom (cond (eqb k 4) RamLength SecretLength)))
+
+refusal-back : (x : Refusal) → refusalOf (refusalNumber x) ≡ x
+refusal-back StateRange = refl
+refusal-back Ended = refl
+refusal-back ReplyRoom = refl
+refusal-back RamLength = refl
+refusal-back SecretLength = refl
+
+abbrev stopOf : ℕ → Stop
+stopOf k = cond (eqb k 22) HeaderBit (cond (eqb k 23) Command (cond (eqb k 24) BodyLength Digest))
+
+stop-back : (x : Stop) → stopOf (stopNumber x) ≡ x
+stop-back HeaderBit = refl
+stop-back Command = refl
+stop-back BodyLength = refl
+stop-back Digest = refl
+
+same-refusal : (x y : Refusal) → refusalNumber x ≡ refusalNumber y → x ≡ y
+same-refusal x y e = sym (refusal-back x) ∙ ap refusalOf e ∙ refusal-back y
+
+same-stop : (x y : Stop) → stopNumber x ≡ stopNumber y → x ≡ y
+same-stop x y e = sym (stop-back x) ∙ ap stopOf e ∙ stop-back y
+
+same-answer : (x y : Answer) → reportOf x ≡ reportOf y → x ≡ y
+same-answer (Refused x) (Refused y) e = ap Refused (same-refusal x y (cc))
+same-answer (Stopped x) (Stopped y) e = ap Stopped (same-stop x y (cc))
+same-answer (Started a n) (Started b m) e = cc
+same-answer Continue Continue e = refl
+same-answer (Refused x) Continue e = cc
+same-answer (Refused x) (Stopped y) e = cc
+same-answer (Refused x) (Started b m) e = cc
+same-answer Continue (Refused y) e = cc
+same-answer Continue (Stopped y) e = cc
+same-answer Continue (Started b m) e = cc
+same-answer (Stopped x) (Refused y) e = cc
+same-answer (Stopped x) Continue e = cc
+same-answer (Stopped x) (Started b m) e = cc
+same-answer (Started a n) (Refused y) e = cc
+same-answer (Started a n) Continue e = cc
+same-answer (Started a n) (Stopped y) e = cc
+
+-- ---- the range
+
+in-range : (s : State) → ramOk (s .config .«ram_len») ≡ true → incomingOk (s .incoming) ≡ true → progressOk (s .progress) (s .config .«ram_len») ≡ true
+    → inRange s ≡ true
+unfolding inRange
+in-range s r i p = rw (r, i, p)
+
+ram-ok : (s : State) → inRange s ≡ true → ramOk (s .config .«ram_len») ≡ true
+ram-ok s e = let f = range-facts s e in simp (le-leb 1 (s .config .«ram_len») (f .ram-some), le-leb (s .config .«ram_len») 131072 (f .ram-small))
+
+started-ok : (m : ℕ) → ramOk m ≡ true → inRange (ended phase.Started m) ≡ true
+unfolding ended
+started-ok m r = in-range (ended phase.Started m) r refl refl
+
+stopped-ok : (m : ℕ) → ramOk m ≡ true → inRange (ended phase.Stopped m) ≡ true
+unfolding ended
+stopped-ok m r = in-range (ended phase.Stopped m) r refl refl
+
+-- ---- a call
+
+module _ (s : State) (b : ℕ) (room ram uds : List ℕ) where
+  abbrev m : ℕ
+  m = s .config .«ram_len»
+
+  stays : inRange s ≡ true → inRange (step s b room ram uds .state) ≡ true
+  unfolding startOf
+  stays =
+      by-step s b room ram uds (λ (o : Outcome). inRange s ≡ true → inRange (o .state) ≡ true)
+      (record {
+        refused = λ k e n r. r;
+        more = λ i o r. in-range _ (ram-ok s r) o (range-facts s r .progress);
+        halt = λ w n r. stopped-ok m (ram-ok s r);
+        reply = λ q r. in-range _ (ram-ok s r) refl (range-facts s r .progress);
+        progress = λ q p ram1 o r. in-range _ (ram-ok s r) refl o;
+        start = λ i d room1 ram1 r. started-ok m (ram-ok s r);
+        fail = λ room1 ram1 r. stopped-ok m (ram-ok s r);
+      })
+
+  refused-only : (k : ℕ) → step s b room ram uds .report ≡ refused k → (k ≡ number s b room ram uds) × (k ≡ 0 → ⊥)
+  unfolding startOf
+  refused-only k =
+      by-step s b room ram uds (λ (o : Outcome). o .report ≡ refused k → (k ≡ number s b room ram uds) × (k ≡ 0 → ⊥))
+      (record {
+        refused = λ j e n q. let z : k ≡ j = cc in (z ∙ e, λ x. n (sym z ∙ x));
+        more = λ i o q. apart (cc);
+        halt = λ w n q. apart (cc);
+        reply = λ r q. apart (cc);
+        progress = λ r p ram1 o q. apart (cc);
+        start = λ i d room1 ram1 q. apart (cc);
+        fail = λ room1 ram1 q. apart (cc);
+      })
+
+  refused-when : (k : ℕ) → (k ≡ number s b room ram uds) × (k ≡ 0 → ⊥) → step s b room ram uds .report ≡ refused k
+  unfolding step
+  refused-when k h = rw (← (h .0), ne-eqb k 0 (h .1))
+
+  kept : (k : ℕ) → step s b room ram uds .report ≡ refused k → step s b room ram uds ≡ refusing k s room ram uds
+  unfolding startOf
+  kept k =
+      by-step s b room ram uds (λ (o : Outcome). o .report ≡ refused k → o ≡ refusing k s room ram uds)
+      (record {
+        refused = λ j e n q. let z : j ≡ k = cc in ap (λ (x : ℕ). refusing x s room ram uds) z;
+        more = λ i o q. apart (cc);
+        halt = λ w n q. apart (cc);
+        reply = λ r q. apart (cc);
+        progress = λ r p ram1 o q. apart (cc);
+        start = λ i d room1 ram1 q. apart (cc);
+        fail = λ room1 ram1 q. apart (cc);
+      })
+
+  goes-on : step s b room ram uds .report ≡ continues
+      → (step s b room ram uds .state .config ≡ s .config) × (step s b room ram uds .uds ≡ uds)
+      × (step s b room ram uds .cdi ≡ zeros 32) × (step s b room ram uds .digest ≡ zeros 32)
+  unfolding startOf
+  goes-on =
+      by-step s b room ram uds
+      (λ (o : Outcome). o .report ≡ continues → (o .state .config ≡ s .config) × (o .uds ≡ uds) × (o .cdi ≡ zeros 32) × (o .digest ≡ zeros 32))
+      (record {
+        refused = λ j e n q. apart (cc);
+        more = λ i o q. (refl, refl, refl, refl);
+        halt = λ w n q. apart (cc);
+        reply = λ r q. (refl, refl, refl, refl);
+        progress = λ r p ram1 o q. (refl, refl, refl, refl);
+        start = λ i d room1 ram1 q. apart (cc);
+        fail = λ room1 ram1 q. apart (cc);
+      })
+
+  abbrev Stops : ℕ → Outcome → Type 0
+  Stops k o =
+      (o .state ≡ ended phase.Stopped m) × (o .uds ≡ uds) × (o .cdi ≡ zeros 32) × (o .digest ≡ zeros 32)
+      × (o .reply ≡ cond (eqb k 25) 129 0) × ((k ≡ 25 → ⊥) → (o .room ≡ room) × (o .ram ≡ ram))
+
+  stops : (k : ℕ) → step s b room ram uds .report ≡ stopped k → Stops k (step s b room ram uds)
+  unfolding startOf
+  stops k =
+      by-step s b room ram uds (λ (o : Outcome). o .report ≡ stopped k → Stops k o)
+      (record {
+        refused = λ j e n q. apart (cc);
+        more = λ i o q. apart (cc);
+        halt = λ w n q.
+            let z : k ≡ stopNumber w = cc in
+            (refl, refl, refl, refl, rw (ne-eqb k 25 (λ x. n (sym z ∙ x))), λ x. (refl, refl));
+        reply = λ r q. apart (cc);
+        progress = λ r p ram1 o q. apart (cc);
+        start = λ i d room1 ram1 q. apart (cc);
+        fail = λ room1 ram1 q.
+            let z : k ≡ 25 = cc in
+            (refl, refl, refl, refl, rw (eq-eqb k 25 z), λ x. absurd (x z));
+      })
+
+  starts : (address size : ℕ) → step s b room ram uds .report ≡ started address size
+      → (address ≡ 0x40000000) × (size ≡ s .progress .size) × (step s b room ram uds .state ≡ ended phase.Started m)
+      × (step s b room ram uds .uds ≡ zeros 8) × (step s b room ram uds .reply ≡ 129)
+  unfolding startOf
+  starts a n =
+      by-step s b room ram uds
+      (λ (o : Outcome). o .report ≡ started a n
+      → (a ≡ 0x40000000) × (n ≡ s .progress .size) × (o .state ≡ ended phase.Started m) × (o .uds ≡ zeros 8) × (o .reply ≡ 129))
+      (record {
+        refused = λ j e n q. apart (cc);
+        more = λ i o q. apart (cc);
+        halt = λ w n q. apart (cc);
+        reply = λ r q. apart (cc);
+        progress = λ r p ram1 o q. apart (cc);
+        start = λ i d room1 ram1 q. (cc, cc, refl, refl, refl);
+        fail = λ room1 ram1 q. apart (cc);
+      })
+
+pub loader : Loader
+unfolding ended
+loader = record {
+  answers = same-answer;
+  call = λ s b room ram uds. record {
+    stays = stays s b room ram uds;
+    refuses = λ k. (refused-only s b room ram uds k, refused-when s b room ram uds k);
+    kept = kept s b room ram uds;
+    goes-on = goes-on s b room ram uds;
+    stops = stops s b room ram uds;
+    starts = starts s b room ram uds;
+  };
+  frame = frame-whole;
+  ends = λ p m. (refl, refl, refl, refl, refl, refl, refl);
+}

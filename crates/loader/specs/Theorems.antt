@@ -1,0 +1,72 @@
+-- What is proved about a call, besides the promise of `receive`. The proof is `loader` in proofs/Proved.antt.
+use Prim.Native.Nat.{ℕ, _+_}
+use mathlib.Core.Path.{_≡_}
+use mathlib.Core.Logic.{_↔_}
+use mathlib.Core.Bool.{true, cond}
+use mathlib.Core.List.{List, [], _∷_}
+use lib.Dec.{eqb}
+use lib.ListN.{length}
+use lib.Seq.{paste}
+use Rattle.framing.specs.Header.{good, headerAt}
+use Rattle.loader.specs.State.{zeros, inRange, idle, ended}
+use Rattle.loader.specs.Answers.{refused, continues, stopped, started, reportOf}
+use Rattle.loader.specs.Machine.{gathered, refusal, refusing, step}
+use Rattle.loader.specs.declared.Phase.{Phase}
+use Rattle.loader.specs.declared.Phase.the-variants as phase
+use Rattle.loader.specs.declared.Incoming.{Incoming}
+use Rattle.loader.specs.declared.State.{State}
+use Rattle.loader.specs.declared.Answer.{Answer}
+use Rattle.loader.specs.declared.gathering.Step.{Step}
+use Rattle.loader.specs.declared.gathering.Step.the-variants.{More, Whole, Bad}
+use Rattle.loader.specs.declared.gathering.Gathered.{Gathered}
+
+-- bytes gathered one after the other, until a frame is whole or a header is bad
+abbrev pub gatheredOn : List ℕ → Step → Incoming → Gathered
+gatheredOn [] k i = record { step = k; incoming = i }
+gatheredOn (b ∷ bs) More i = gatheredOn bs (gathered i b .step) (gathered i b .incoming)
+gatheredOn (b ∷ bs) Whole i = record { step = Whole; incoming = i }
+gatheredOn (b ∷ bs) Bad i = record { step = Bad; incoming = i }
+
+abbrev pub gatheredAll : Incoming → List ℕ → Gathered
+gatheredAll i bs = gatheredOn bs More i
+
+-- a call on a state in any range, with any byte and anything lent
+module _ (s : State) (b : ℕ) (room ram uds : List ℕ) where
+  -- the number that the call is refused with, 0 for none
+  abbrev pub number : ℕ
+  number = refusal s (length room) (length ram) (length uds)
+
+  pub record Call : Type 0 where
+    -- a state in range stays in range
+    pub stays : inRange s ≡ true → inRange (step s b room ram uds .state) ≡ true
+    -- a call answers the number of a refusal exactly when that is the number of its state and what is lent, and then it returns what it was given
+    pub refuses : (k : ℕ) → (step s b room ram uds .report ≡ refused k) ↔ ((k ≡ number) × (k ≡ 0 → ⊥))
+    pub kept : (k : ℕ) → step s b room ram uds .report ≡ refused k → step s b room ram uds ≡ refusing k s room ram uds
+    -- while the session goes on, what begin fixed and the UDS stay, and neither CDI nor digest is given
+    pub goes-on : step s b room ram uds .report ≡ continues
+        → (step s b room ram uds .state .config ≡ s .config) × (step s b room ram uds .uds ≡ uds)
+        × (step s b room ram uds .cdi ≡ zeros 32) × (step s b room ram uds .digest ≡ zeros 32)
+    -- after a stop the state is the one of an end and the UDS stays; only 25 has a reply, and only it comes after RAM was written
+    pub stops : (k : ℕ) → step s b room ram uds .report ≡ stopped k
+        → (step s b room ram uds .state ≡ ended phase.Stopped (s .config .«ram_len»)) × (step s b room ram uds .uds ≡ uds)
+        × (step s b room ram uds .cdi ≡ zeros 32) × (step s b room ram uds .digest ≡ zeros 32)
+        × (step s b room ram uds .reply ≡ cond (eqb k 25) 129 0)
+        × ((k ≡ 25 → ⊥) → (step s b room ram uds .room ≡ room) × (step s b room ram uds .ram ≡ ram))
+    -- after a start the state is the one of an end, and each word of the UDS is zero
+    pub starts : (address size : ℕ) → step s b room ram uds .report ≡ started address size
+        → (address ≡ 0x40000000) × (size ≡ s .progress .size) × (step s b room ram uds .state ≡ ended phase.Started (s .config .«ram_len»))
+        × (step s b room ram uds .uds ≡ zeros 8) × (step s b room ram uds .reply ≡ 129)
+
+pub record Loader : Type 0 where
+  -- the reported number and values settle the answer
+  pub answers : (x y : Answer) → reportOf x ≡ reportOf y → x ≡ y
+  pub call : (s : State) (b : ℕ) (room ram uds : List ℕ) → Call s b room ram uds
+  -- a good frame heard from its header to its last byte: one for the firmware is whole, with its body at the front of the gathered bytes; one
+  -- for another endpoint leaves nothing
+  pub frame : (i : Incoming) (h id ep n : ℕ) (body : List ℕ) → i .got ≡ 0 → length (i .body) ≡ 128 → headerAt h ≡ good id ep n → length body ≡ n
+      → gatheredAll i (h ∷ body)
+      ≡ cond (eqb ep 2) (record { step = Whole; incoming = record { header = h; got = n + 1; body = paste (i .body) 0 body n } })
+      (record { step = More; incoming = idle })
+  -- nothing of a session is left in the state of an end
+  pub ends : (p : Phase) (m : ℕ) → (ended p m .incoming ≡ idle) × (ended p m .config .required ≡ zeros 32) × (ended p m .config .«measured_id» ≡ zeros 32)
+      × (ended p m .config .udi ≡ zeros 8) × (ended p m .progress .uss ≡ zeros 32) × (ended p m .progress .phase ≡ p) × (ended p m .config .«ram_len» ≡ m)

@@ -1,0 +1,89 @@
+-- The theorem of specs/Theorems.antt: literal cases compute, fields after a list of known length are the parts there, and the numbers of
+-- blocks are arithmetic.
+use Prim.Native.Nat.{ℕ, _+_, _-_, _/_, _%_, _≤_, _<_}
+use mathlib.Core.Path.{_≡_, refl, ap}
+use mathlib.Core.Logic.{_⊎_, inl, inr}
+use mathlib.Core.Bool.{Bool, true, false, _&&_}
+use mathlib.Core.List.{List, [], _∷_, _++_}
+use native.Mathlib.Omega.{arith}
+use lib.Dec.{leb}
+use lib.ListN.{length, take, replicate}
+use lib.Seq.{take-at, take-append-add}
+use borrow.Author.Tests.{eq-eqb, eqb-true, eqb-false, le-leb, leb-true}
+use Rattle.framing.specs.Header.{good, headerAt, headerByte, codeOf, frameId, inField}
+use Rattle.framing.proofs.Headers.{headers, written}
+use Rattle.blake2s.specs.Rfc7693.{word}
+use Rattle.protocol.specs.Commands.{loadIn, blocksFor, placeOf, countIn, isLast}
+use Rattle.protocol.specs.Replies.{replyHeader, sent, nameReply, udiReply, loadReply, blockReply, digestReply}
+use Rattle.protocol.specs.Theorems.{Protocol, loadWith}
+
+fields : (h command flag : ℕ) (size uss rest : List ℕ) → length size ≡ 4 → length uss ≡ 32
+    → loadIn (h ∷ command ∷ size ++ flag ∷ uss ++ rest) ≡ loadWith (word size 0) flag uss
+unfolding loadIn word
+fields h command flag (a ∷ b ∷ c ∷ d ∷ []) uss rest e l = rw (take-at uss rest 32 l)
+fields h command flag [] uss rest e l = absurd (omega arith)
+fields h command flag (a ∷ []) uss rest e l = absurd (omega arith)
+fields h command flag (a ∷ b ∷ []) uss rest e l = absurd (omega arith)
+fields h command flag (a ∷ b ∷ c ∷ []) uss rest e l = absurd (omega arith)
+fields h command flag (a ∷ b ∷ c ∷ d ∷ x ∷ xs) uss rest e l = absurd (omega arith)
+
+good-size : (m n : ℕ) → leb 1 n && leb n m ≡ true → (1 ≤ n) × (n ≤ m)
+good-size m n = go (leb 1 n) (leb n m) refl refl
+  where
+    go : (x y : Bool) → leb 1 n ≡ x → leb n m ≡ y → x && y ≡ true → (1 ≤ n) × (n ≤ m)
+    go true true p q e = (leb-true 1 n p, leb-true n m q)
+    go true false p q e = absurd (let w : _≡_ {A = ℕ} 0 1 = cc in omega arith)
+    go false y p q e = absurd (let w : _≡_ {A = ℕ} 0 1 = cc in omega arith)
+
+full-block : (n k : ℕ) → k < blocksFor n → isLast n k ≡ false → countIn n k ≡ 127
+full-block n k h e =
+    let d : (n + 126) / 127 ≡ k + 1 → ⊥ = eqb-false (blocksFor n) (k + 1) e in
+    let g : k + 1 < (n + 126) / 127 = omega (arith, d) in
+    omega arith
+
+last-block : (n k : ℕ) → 1 ≤ n → isLast n k ≡ true → placeOf k + countIn n k ≡ n
+last-block n k h e =
+    let d : (n + 126) / 127 ≡ k + 1 = eqb-true (blocksFor n) (k + 1) e in
+    omega arith
+
+reply-header : (h n : ℕ) → codeOf n < 4 → headerAt (replyHeader h n) ≡ good (inField frameId h) 2 n
+unfolding replyHeader
+reply-header h n c =
+    let w = written (h / 32 % 4) 2 n (omega arith) (omega arith) c in
+    rw w (headers .exact _ (h / 32 % 4) 2 n .1 w .1)
+
+of-length : (h n : ℕ) → (n ≡ 4) ⊎ ((n ≡ 32) ⊎ (n ≡ 128)) → headerAt (replyHeader h n) ≡ good (inField frameId h) 2 n
+of-length h n (inl e) = reply-header h n (rw e (omega arith))
+of-length h n (inr (inl e)) = reply-header h n (rw e (omega arith))
+of-length h n (inr (inr e)) = reply-header h n (rw e (omega arith))
+
+-- the first n + k bytes of p, which has n, and of what follows
+front : (p z : List ℕ) (n k : ℕ) → length p ≡ n → take (n + k) (p ++ z) ≡ p ++ take k z
+front p z n k e = rw (← e) (take-append-add p z k)
+
+udi-bytes : (u : List ℕ) → length u ≡ 8 → sent (udiReply 0x30 u) ≡ 0x32 ∷ 0x09 ∷ 0 ∷ u ++ replicate 22 0
+unfolding udiReply replyHeader headerByte
+udi-bytes u l = rw l (ap (λ (x : List ℕ). 0x32 ∷ 0x09 ∷ 0 ∷ x) (front u (replicate 118 0) 8 22 l))
+
+digest-bytes : (d : List ℕ) → length d ≡ 32 → sent (digestReply 0x73 d) ≡ 0x73 ∷ 0x07 ∷ 0 ∷ d ++ replicate 94 0
+unfolding digestReply replyHeader headerByte
+digest-bytes d l = rw l (ap (λ (x : List ℕ). 0x73 ∷ 0x07 ∷ 0 ∷ x) (front d (replicate 94 0) 32 94 l))
+
+pub protocol : Protocol
+unfolding nameReply loadReply blockReply replyHeader headerByte
+protocol = record {
+  load = fields;
+  flags = λ n uss. (refl, refl, refl);
+  used = λ l. (eqb-true (l .flag) 1, eq-eqb (l .flag) 1);
+  sizes = λ m l. (good-size m (l .size), λ h. simp (le-leb 1 (l .size) (h .0), le-leb (l .size) m (h .1)));
+  blocks = (refl, refl, refl, refl, refl, refl);
+  full = full-block;
+  last = last-block;
+  header = of-length;
+  name = refl;
+  udi = udi-bytes;
+  taken = refl;
+  not-taken = refl;
+  block = refl;
+  digest = digest-bytes;
+}
