@@ -4,13 +4,13 @@ use mathlib.Core.Path.{_≡_, subst}
 use mathlib.Core.List.{List}
 use borrow.Author.Tests.{ne-eqb}
 use types.Run.{OneOf}
-use Rattle.loader.specs.Machine.{deedWaiting, deedLoading}
-use Rattle.loader.specs.declared.acting.Deed.the-variants.{NotAllowed}
+use Rattle.loader.specs.Machine.{actionWaiting, actionLoading}
+use Rattle.loader.specs.declared.acting.Action.the-variants.{WrongCommand}
 
-pub not-waiting : (c n : ℕ) → (c ≡ 1 → ⊥) → (c ≡ 8 → ⊥) → (c ≡ 3 → ⊥) → NotAllowed ≡ deedWaiting c n
+pub not-waiting : (c n : ℕ) → (c ≡ 1 → ⊥) → (c ≡ 8 → ⊥) → (c ≡ 3 → ⊥) → WrongCommand ≡ actionWaiting c n
 not-waiting c n p q r = simp (ne-eqb c 1 p, ne-eqb c 8 q, ne-eqb c 3 r)
 
-pub not-loading : (c n : ℕ) → (c ≡ 5 → ⊥) → NotAllowed ≡ deedLoading c n
+pub not-loading : (c n : ℕ) → (c ≡ 5 → ⊥) → WrongCommand ≡ actionLoading c n
 not-loading c n p = simp (ne-eqb c 5 p)
 
 -- one of ks is not k, which is none of them

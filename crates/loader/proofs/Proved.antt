@@ -8,7 +8,7 @@ use lib.Dec.{eqb}
 use borrow.Author.Tests.{ne-eqb, eq-eqb, le-leb}
 use Rattle.loader.specs.State.{zeros, incomingOk, progressOk, ramOk, inRange, ended}
 use Rattle.loader.specs.Answers.{refused, continues, stopped, started, refusalNumber, stopNumber, reportOf, Outcome}
-use Rattle.loader.specs.Machine.{startOf, refusing, step}
+use Rattle.loader.specs.Machine.{starting, refusing, step}
 use Rattle.loader.specs.Theorems.{Loader, number}
 use Rattle.loader.proofs.Ranges.{range-facts}
 use Rattle.loader.proofs.Ways.{by-step}
@@ -96,7 +96,7 @@ module _ (s : State) (b : ℕ) (room ram uds : List ℕ) where
   m = s .config .«ram_len»
 
   stays : inRange s ≡ true → inRange (step s b room ram uds .state) ≡ true
-  unfolding startOf
+  unfolding starting
   stays =
       by-step s b room ram uds (λ (o : Outcome). inRange s ≡ true → inRange (o .state) ≡ true)
       (record {
@@ -110,7 +110,7 @@ module _ (s : State) (b : ℕ) (room ram uds : List ℕ) where
       })
 
   refused-only : (k : ℕ) → step s b room ram uds .report ≡ refused k → (k ≡ number s b room ram uds) × (k ≡ 0 → ⊥)
-  unfolding startOf
+  unfolding starting
   refused-only k =
       by-step s b room ram uds (λ (o : Outcome). o .report ≡ refused k → (k ≡ number s b room ram uds) × (k ≡ 0 → ⊥))
       (record {
@@ -128,7 +128,7 @@ module _ (s : State) (b : ℕ) (room ram uds : List ℕ) where
   refused-when k h = rw (← (h .0), ne-eqb k 0 (h .1))
 
   kept : (k : ℕ) → step s b room ram uds .report ≡ refused k → step s b room ram uds ≡ refusing k s room ram uds
-  unfolding startOf
+  unfolding starting
   kept k =
       by-step s b room ram uds (λ (o : Outcome). o .report ≡ refused k → o ≡ refusing k s room ram uds)
       (record {
@@ -144,7 +144,7 @@ module _ (s : State) (b : ℕ) (room ram uds : List ℕ) where
   goes-on : step s b room ram uds .report ≡ continues
       → (step s b room ram uds .state .config ≡ s .config) × (step s b room ram uds .uds ≡ uds)
       × (step s b room ram uds .cdi ≡ zeros 32) × (step s b room ram uds .digest ≡ zeros 32)
-  unfolding startOf
+  unfolding starting
   goes-on =
       by-step s b room ram uds
       (λ (o : Outcome). o .report ≡ continues → (o .state .config ≡ s .config) × (o .uds ≡ uds) × (o .cdi ≡ zeros 32) × (o .digest ≡ zeros 32))
@@ -164,14 +164,14 @@ module _ (s : State) (b : ℕ) (room ram uds : List ℕ) where
       × (o .reply ≡ cond (eqb k 25) 129 0) × ((k ≡ 25 → ⊥) → (o .room ≡ room) × (o .ram ≡ ram))
 
   stops : (k : ℕ) → step s b room ram uds .report ≡ stopped k → Stops k (step s b room ram uds)
-  unfolding startOf
+  unfolding starting
   stops k =
       by-step s b room ram uds (λ (o : Outcome). o .report ≡ stopped k → Stops k o)
       (record {
         refused = λ j e n q. apart (cc);
         more = λ i o q. apart (cc);
-        halt = λ w n q.
-            let z : k ≡ stopNumber w = cc in
+        halt = λ j n q.
+            let z : k ≡ j = cc in
             (refl, refl, refl, refl, rw (ne-eqb k 25 (λ x. n (sym z ∙ x))), λ x. (refl, refl));
         reply = λ r q. apart (cc);
         progress = λ r p ram1 o q. apart (cc);
@@ -184,7 +184,7 @@ module _ (s : State) (b : ℕ) (room ram uds : List ℕ) where
   starts : (address size : ℕ) → step s b room ram uds .report ≡ started address size
       → (address ≡ 0x40000000) × (size ≡ s .progress .size) × (step s b room ram uds .state ≡ ended phase.Started m)
       × (step s b room ram uds .uds ≡ zeros 8) × (step s b room ram uds .reply ≡ 129)
-  unfolding startOf
+  unfolding starting
   starts a n =
       by-step s b room ram uds
       (λ (o : Outcome). o .report ≡ started a n

@@ -9,10 +9,10 @@ use Rattle.framing.specs.Header.{Reading, good, headerAt, lengthOf}
 use Rattle.framing.proofs.Headers.{by-bits}
 use Rattle.protocol.specs.Commands.{blocksFor, placeOf, countIn}
 use Rattle.loader.specs.State.{bodyLen, incomingOk, loadingOk, progressIn, progressOk, ramOk, inRange}
-use Rattle.loader.specs.Machine.{deedIn, deedWaiting}
+use Rattle.loader.specs.Machine.{actionIn, actionWaiting}
 use Rattle.loader.specs.declared.Phase.{Phase}
 use Rattle.loader.specs.declared.Phase.the-variants.{Waiting, Loading, Started, Stopped}
-use Rattle.loader.specs.declared.acting.Deed.the-variants as deed
+use Rattle.loader.specs.declared.acting.Action.the-variants as action
 use Rattle.loader.specs.declared.Incoming.{Incoming}
 use Rattle.loader.specs.declared.Progress.{Progress}
 use Rattle.loader.specs.declared.State.{State}
@@ -92,11 +92,11 @@ block-within p m l =
     omega arith
 
 -- only while loading is a block asked for
-pub no-block : (c n : ℕ) → deedWaiting c n ≡ deed.Block → ⊥
+pub no-block : (c n : ℕ) → actionWaiting c n ≡ action.Block → ⊥
 no-block c n = go (eqb c 0x01) (eqb c 0x08) (eqb c 0x03) (eqb n 1) (eqb n 128)
   where
     go : (x y z t u : Bool)
-        → cond x (cond t deed.Name deed.WrongLength) (cond y (cond t deed.Udi deed.WrongLength) (cond z (cond u deed.Load deed.WrongLength) deed.NotAllowed)) ≡ deed.Block
+        → cond x (cond t action.Name action.WrongLength) (cond y (cond t action.Udi action.WrongLength) (cond z (cond u action.Load action.WrongLength) action.WrongCommand)) ≡ action.Block
         → ⊥
     go true y z true u e = let w : _≡_ {A = ℕ} 0 1 = cc in omega arith
     go true y z false u e = let w : _≡_ {A = ℕ} 0 1 = cc in omega arith
@@ -106,7 +106,7 @@ no-block c n = go (eqb c 0x01) (eqb c 0x08) (eqb c 0x03) (eqb n 1) (eqb n 128)
     go false false true t false e = let w : _≡_ {A = ℕ} 0 1 = cc in omega arith
     go false false false t u e = let w : _≡_ {A = ℕ} 0 1 = cc in omega arith
 
-pub block-loading : (ph : Phase) (c n : ℕ) (p : Progress) (m : ℕ) → deedIn ph c n ≡ deed.Block → progressIn ph p m ≡ true → loadingOk p m ≡ true
+pub block-loading : (ph : Phase) (c n : ℕ) (p : Progress) (m : ℕ) → actionIn ph c n ≡ action.Block → progressIn ph p m ≡ true → loadingOk p m ≡ true
 block-loading Loading c n p m e r = r
 block-loading Waiting c n p m e r = absurd (no-block c n e)
 block-loading Started c n p m e r = absurd (let w : _≡_ {A = ℕ} 0 1 = cc in omega arith)

@@ -15,7 +15,8 @@ use Rattle.protocol.specs.declared.Load.{Load}
 use Rattle.protocol.specs.declared.Reply.{Reply}
 use Rattle.loader.specs.State.{zeros, bodyLen, inRange, live, ended}
 use Rattle.loader.specs.Answers.{refusalNumber, outcome}
-use Rattle.loader.specs.Machine.{plainly, frameOf, putIn, replying, loadOf, takes, loaded, loadAnswer, afterLoad, allowed, startOf, finishedWith, deedIn, performed, acted, refusal, withIncoming, gathered, afterByte, heard, step}
+use Rattle.loader.specs.Machine.{putIn, replying, loadOf, takes, loaded, loadAnswer, afterLoad, allowed, starting, finishedWith, actionIn, performed, acted, refusal, withIncoming, gathered, afterByte, processed, step}
+use Rattle.loader.specs.Steps.{plainly, frameOf, startOf}
 use Rattle.loader.specs.declared.Phase.the-variants as phase
 use Rattle.loader.specs.declared.Refusal.{Refusal}
 use Rattle.loader.specs.declared.Refusal.the-variants.{StateRange, Ended, ReplyRoom, RamLength, SecretLength}
@@ -25,7 +26,7 @@ use Rattle.loader.specs.declared.State.{State}
 use Rattle.loader.specs.declared.Received.{Received}
 use Rattle.loader.specs.declared.gathering.Step.{Step}
 use Rattle.loader.specs.declared.gathering.Gathered.{Gathered}
-use Rattle.loader.specs.declared.acting.Deed.{Deed}
+use Rattle.loader.specs.declared.acting.Action.{Action}
 
 -- a reply after which the session goes on
 pub replies : (q r : Reply) (s : State) (x : Received) (room room' ram ram' uds : List ℕ) → r ≡ q → x ≡ plainly Continue (r .len + 1) s
@@ -58,7 +59,7 @@ module _ (s : State) (f : Frame) (l : Load) (g : Bool) (r : Reply)
 module _ (s : State) (d room ram uds : List ℕ) (x : Received) (room' uds' : List ℕ)
     (er : room' ≡ putIn room (sent (digestReply (s .incoming .header) d))) where
   pub ends-in-start : allowed (s .config) d ≡ true → x ≡ startOf s d uds → uds' ≡ zeros 8 → outcome x room' ram uds' ≡ finishedWith d s room ram uds
-  unfolding finishedWith
+  unfolding finishedWith starting
   ends-in-start ea ex eu = rw (ea, ex, eu, er)
 
   pub ends-in-stop : allowed (s .config) d ≡ false → x ≡ plainly (Stopped Digest) 129 (ended phase.Stopped (s .config .«ram_len»)) → uds' ≡ uds
@@ -67,16 +68,16 @@ module _ (s : State) (d room ram uds : List ℕ) (x : Received) (room' uds' : Li
   ends-in-stop ea ex eu = rw (ea, ex, eu, er)
 
 -- a whole frame, once it is known what it asks for
-pub acted-as : (s : State) (room ram uds : List ℕ) (d : Deed) (n : ℕ) → n ≡ bodyLen (headerAt (s .incoming .header))
-    → d ≡ deedIn (s .progress .phase) (getD (s .incoming .body) 0 0) n → performed d s room ram uds ≡ acted s room ram uds
+pub acted-as : (s : State) (room ram uds : List ℕ) (d : Action) (n : ℕ) → n ≡ bodyLen (headerAt (s .incoming .header))
+    → d ≡ actionIn (s .progress .phase) (getD (s .incoming .body) 0 0) n → performed d s room ram uds ≡ acted s room ram uds
 unfolding acted
 acted-as s room ram uds d n en ed = rw (ed, en)
 
 -- a byte, once it is known what it leads to
-pub heard-as : (s : State) (b : ℕ) (room ram uds : List ℕ) (g : Gathered) (k : Step) (t : State) → g ≡ gathered (s .incoming) b → k ≡ g .step
-    → t ≡ withIncoming s (g .incoming) → afterByte k t room ram uds ≡ heard s b room ram uds
-unfolding heard
-heard-as s b room ram uds g k t eg ek et = rw (ek, et, eg)
+pub processed-as : (s : State) (b : ℕ) (room ram uds : List ℕ) (g : Gathered) (k : Step) (t : State) → g ≡ gathered (s .incoming) b → k ≡ g .step
+    → t ≡ withIncoming s (g .incoming) → afterByte k t room ram uds ≡ processed s b room ram uds
+unfolding processed
+processed-as s b room ram uds g k t eg ek et = rw (ek, et, eg)
 
 -- a refused call
 numbered : (w : Refusal) → eqb (refusalNumber w) 0 ≡ false
@@ -93,7 +94,7 @@ refused-as s b room ram uds w x ex e = rw (ex, ← e, numbered w)
 
 -- a call that is not refused
 pub admitted-as : (s : State) (b : ℕ) (room ram uds : List ℕ) → 0 ≡ refusal s (length room) (length ram) (length uds)
-    → heard s b room ram uds ≡ step s b room ram uds
+    → processed s b room ram uds ≡ step s b room ram uds
 unfolding step
 admitted-as s b room ram uds e = rw (← e)
 

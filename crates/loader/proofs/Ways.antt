@@ -2,19 +2,19 @@
 use Prim.Native.Nat.{ℕ, _+_, _/_, _<_}
 use mathlib.Core.Bool.{true, false}
 use mathlib.Core.Path.{_≡_, refl}
-use mathlib.Core.List.{List, []}
+use mathlib.Core.List.{List, [], _∷_}
 use native.Mathlib.Omega.{arith}
 use lib.Dec.{eqb, leb, ltb}
 use lib.ListN.{length, getD, take}
 use borrow.Author.Tests.{eqb-true, eqb-false, ltb-true, lt-ltb, le-leb, leb-true, ne-eqb}
 use Rattle.framing.specs.Header.{Reading, good, stop, headerAt}
 use Rattle.blake2s.specs.Rfc7693.{blake2s}
-use Rattle.protocol.specs.Commands.{isLast, bytesOf}
+use Rattle.protocol.specs.Commands.{isLast}
 use Rattle.protocol.specs.Replies.{nameReply, udiReply, blockReply}
 use Rattle.protocol.specs.declared.Reply.{Reply}
-use Rattle.loader.specs.State.{zeros, bodyLen, incomingOk, loadingOk, progressIn, progressOk, ended}
-use Rattle.loader.specs.Answers.{Outcome, outcome, stopNumber}
-use Rattle.loader.specs.Machine.{opened, continued, gathered, deedIn, plainly, between, frameOf, replying, loaded, loadOf, takes, loadAnswer, afterLoad, storedIn, nextBlock, allowed, startOf, finishedWith, actedBlock, performed, acted, refusal, withIncoming, afterByte, heard, refusing, step}
+use Rattle.loader.specs.State.{bodyLen, incomingOk, loadingOk, progressIn, progressOk, ended}
+use Rattle.loader.specs.Answers.{stopped, continues, Outcome}
+use Rattle.loader.specs.Machine.{plain, stopping, starting, opened, continued, gathered, actionIn, between, replying, loaded, loadOf, takes, loadAnswer, afterLoad, storedIn, nextBlock, allowed, finishedWith, actedBlock, performed, acted, refusal, withIncoming, afterByte, processed, refusing, step}
 use Rattle.loader.proofs.Ranges.{both, by-test, length-some, loading-facts, no-block, range-facts}
 use Rattle.loader.proofs.Steps.{admitted}
 use Rattle.loader.specs.declared.Phase.{Phase}
@@ -22,14 +22,11 @@ use Rattle.loader.specs.declared.Phase.the-variants as phase
 use Rattle.loader.specs.declared.Incoming.{Incoming}
 use Rattle.loader.specs.declared.Progress.{Progress}
 use Rattle.loader.specs.declared.State.{State}
-use Rattle.loader.specs.declared.Stop.{Stop}
-use Rattle.loader.specs.declared.Stop.the-variants.{HeaderBit, Command, BodyLength, Digest}
-use Rattle.loader.specs.declared.Answer.the-variants.{Continue, Stopped}
 use Rattle.loader.specs.declared.gathering.Step.{Step}
 use Rattle.loader.specs.declared.gathering.Step.the-variants.{More, Whole, Bad}
 use Rattle.loader.specs.declared.gathering.Gathered.{Gathered}
-use Rattle.loader.specs.declared.acting.Deed.{Deed}
-use Rattle.loader.specs.declared.acting.Deed.the-variants as deed
+use Rattle.loader.specs.declared.acting.Action.{Action}
+use Rattle.loader.specs.declared.acting.Action.the-variants as action
 
 -- ---- what is gathered stays in range
 
@@ -63,7 +60,7 @@ loaded-ok s e =
     simp (a .0, a .1) (lt-ltb 0 ((n + 126) / 127) (omega arith))
 
 -- a block that is not the last
-next-ok : (ph : Phase) (c n : ℕ) (p : Progress) (m : ℕ) → deedIn ph c n ≡ deed.Block → progressIn ph p m ≡ true → isLast (p .size) (p .block) ≡ false
+next-ok : (ph : Phase) (c n : ℕ) (p : Progress) (m : ℕ) → actionIn ph c n ≡ action.Block → progressIn ph p m ≡ true → isLast (p .size) (p .block) ≡ false
     → progressIn ph (nextBlock p) m ≡ true
 next-ok phase.Loading c n p m e r l =
     let f = loading-facts p m r in
@@ -80,30 +77,29 @@ module _ (s : State) (b : ℕ) (room ram uds : List ℕ) (P : Outcome → Type 0
   pub record Ways : Type 0 where
     pub refused : (k : ℕ) → k ≡ refusal s (length room) (length ram) (length uds) → (k ≡ 0 → ⊥) → P (refusing k s room ram uds)
     -- a byte of a frame that is not whole, or of one that is passed over
-    pub more : (i : Incoming) → incomingOk i ≡ true → P (outcome (plainly Continue 0 (withIncoming s i)) room ram uds)
+    pub more : (i : Incoming) → incomingOk i ≡ true → P (plain continues 0 (withIncoming s i) room ram uds)
     -- stops 22, 23 and 24
-    pub halt : (w : Stop) → (stopNumber w ≡ 25 → ⊥) → P (outcome (plainly (Stopped w) 0 (ended phase.Stopped (s .config .«ram_len»))) room ram uds)
+    pub halt : (k : ℕ) → (k ≡ 25 → ⊥) → P (stopping k s room ram uds)
     -- a query, or a load that is not taken
     pub reply : (r : Reply) → P (replying r (between s (s .progress)) room ram uds)
     -- a load that is taken, or a block that is not the last
     pub progress : (r : Reply) (p : Progress) (ram1 : List ℕ) → progressOk p (s .config .«ram_len») ≡ true → P (replying r (between s p) room ram1 uds)
     -- the last block
-    pub start : (i : Incoming) (d room1 ram1 : List ℕ) → P (outcome (startOf (withIncoming s i) d uds) room1 ram1 (zeros 8))
-    pub fail : (room1 ram1 : List ℕ) → P (outcome (plainly (Stopped Digest) 129 (ended phase.Stopped (s .config .«ram_len»))) room1 ram1 uds)
+    pub start : (i : Incoming) (d room1 ram1 : List ℕ) → P (starting d (withIncoming s i) room1 ram1 uds)
+    pub fail : (room1 ram1 : List ℕ) → P (plain (stopped 25) 129 (ended phase.Stopped (s .config .«ram_len»)) room1 ram1 uds)
 
   module _ (w : Ways) where
     block-ways : (i : Incoming) → (isLast (s .progress .size) (s .progress .block) ≡ false → progressOk (nextBlock (s .progress)) (s .config .«ram_len») ≡ true)
         → P (actedBlock (withIncoming s i) room ram uds)
     unfolding actedBlock finishedWith
     block-ways i next =
-        let f = bytesOf (frameOf i) in
-        let ram1 = storedIn ram f (s .progress .size) (s .progress .block) in
+        let ram1 = storedIn ram (i .header ∷ i .body) (s .progress .size) (s .progress .block) in
         let d = blake2s [] (take (s .progress .size) ram1) 32 in
         by-test P (isLast (s .progress .size) (s .progress .block)) _ _
         (λ l. by-test P (allowed (s .config) d) _ _ (λ a. w .start i d _ ram1) (λ a. w .fail _ ram1))
         (λ l. w .progress (blockReply (i .header)) (nextBlock (s .progress)) ram1 (next l))
 
-    load-ways : (i : Incoming) → P (performed deed.Load (withIncoming s i) room ram uds)
+    load-ways : (i : Incoming) → P (performed action.Load (withIncoming s i) room ram uds)
     unfolding afterLoad
     load-ways i =
         let t = withIncoming s i in
@@ -111,33 +107,33 @@ module _ (s : State) (b : ℕ) (room ram uds : List ℕ) (P : Outcome → Type 0
         (λ g. w .progress (loadAnswer t) (loaded (loadOf t)) ram (loaded-ok t g))
         (λ g. w .reply (loadAnswer t))
 
-    deed-ways : (i : Incoming) (c n : ℕ) (d : Deed) → deedIn (s .progress .phase) c n ≡ d → progressOk (s .progress) (s .config .«ram_len») ≡ true
+    action-ways : (i : Incoming) (c n : ℕ) (d : Action) → actionIn (s .progress .phase) c n ≡ d → progressOk (s .progress) (s .config .«ram_len») ≡ true
         → P (performed d (withIncoming s i) room ram uds)
-    deed-ways i c n deed.Name e r = w .reply (nameReply (i .header))
-    deed-ways i c n deed.Udi e r = w .reply (udiReply (i .header) (s .config .udi))
-    deed-ways i c n deed.Load e r = load-ways i
-    deed-ways i c n deed.Block e r = block-ways i (next-ok (s .progress .phase) c n (s .progress) (s .config .«ram_len») e r)
-    deed-ways i c n deed.NotAllowed e r = w .halt Command (λ z. omega arith)
-    deed-ways i c n deed.WrongLength e r = w .halt BodyLength (λ z. omega arith)
+    action-ways i c n action.Name e r = w .reply (nameReply (i .header))
+    action-ways i c n action.Udi e r = w .reply (udiReply (i .header) (s .config .udi))
+    action-ways i c n action.Load e r = load-ways i
+    action-ways i c n action.Block e r = block-ways i (next-ok (s .progress .phase) c n (s .progress) (s .config .«ram_len») e r)
+    action-ways i c n action.WrongCommand e r = w .halt 23 (λ z. omega arith)
+    action-ways i c n action.WrongLength e r = w .halt 24 (λ z. omega arith)
 
     acted-ways : (i : Incoming) → progressOk (s .progress) (s .config .«ram_len») ≡ true → P (acted (withIncoming s i) room ram uds)
     unfolding acted
-    acted-ways i r = deed-ways i (getD (i .body) 0 0) (bodyLen (headerAt (i .header))) _ refl r
+    acted-ways i r = action-ways i (getD (i .body) 0 0) (bodyLen (headerAt (i .header))) _ refl r
 
     byte-ways : (g : Gathered) (k : Step) → g .step ≡ k → GoesOn g → progressOk (s .progress) (s .config .«ram_len») ≡ true
         → P (afterByte k (withIncoming s (g .incoming)) room ram uds)
     byte-ways g More e o r = w .more (g .incoming) (o e)
-    byte-ways g Bad e o r = w .halt HeaderBit (λ z. omega arith)
+    byte-ways g Bad e o r = w .halt 22 (λ z. omega arith)
     byte-ways g Whole e o r = acted-ways (g .incoming) r
 
-    heard-ways : progressOk (s .progress) (s .config .«ram_len») ≡ true → P (heard s b room ram uds)
-    unfolding heard
-    heard-ways r = byte-ways (gathered (s .incoming) b) _ refl (gathered-ok (s .incoming) b) r
+    processed-ways : progressOk (s .progress) (s .config .«ram_len») ≡ true → P (processed s b room ram uds)
+    unfolding processed
+    processed-ways r = byte-ways (gathered (s .incoming) b) _ refl (gathered-ok (s .incoming) b) r
 
     pub by-step : P (step s b room ram uds)
     unfolding step
     by-step =
         let k = refusal s (length room) (length ram) (length uds) in
         by-test P (eqb k 0) _ _
-        (λ z. heard-ways (range-facts s (admitted s (length room) (length ram) (length uds) (eqb-true k 0 z) .range) .progress))
+        (λ z. processed-ways (range-facts s (admitted s (length room) (length ram) (length uds) (eqb-true k 0 z) .range) .progress))
         (λ z. w .refused k refl (eqb-false k 0 z))

@@ -1,4 +1,5 @@
 pub mod State
 pub mod Answers
 pub mod Machine
+pub mod Steps
 pub mod Theorems

@@ -1,35 +1,30 @@
 -- What a byte does: document 01, "Header byte", "Commands and replies" and the table of refused calls.
 use Prim.Native.Nat.{ℕ, _+_, _-_}
 use mathlib.Core.Bool.{Bool, true, not, cond}
-use mathlib.Core.List.{List, [], _++_}
+use mathlib.Core.List.{List, [], _∷_, _++_}
 use lib.Dec.{eqb, ltb}
 use lib.ListN.{length, take, drop, set}
 use lib.Seq.{paste}
 use Rattle.framing.specs.Header.{Reading, good, stop, headerAt}
 use Rattle.blake2s.specs.Rfc7693.{blake2s, bytes}
 use Rattle.cdi.specs.Cdi.{cdiOf}
-use Rattle.protocol.specs.Commands.{bytesOf, commandIn, loadIn, goodLoad, usesUss, carriedBy, placeOf, countIn, isLast}
+use Rattle.protocol.specs.Commands.{commandIn, loadIn, goodLoad, usesUss, carriedBy, placeOf, countIn, isLast}
 use Rattle.protocol.specs.Replies.{sent, nameReply, udiReply, loadReply, blockReply, digestReply}
-use Rattle.protocol.specs.declared.Frame.{Frame}
 use Rattle.protocol.specs.declared.Load.{Load}
 use Rattle.protocol.specs.declared.Reply.{Reply}
 use Rattle.loader.specs.State.{zeros, same, bodyLen, inRange, live, idle, ended}
-use Rattle.loader.specs.Answers.{refused, Outcome, outcome}
+use Rattle.loader.specs.Answers.{Report, refused, continues, stopped, started, Outcome}
 use Rattle.loader.specs.declared.Phase.{Phase}
 use Rattle.loader.specs.declared.Phase.the-variants as phase
 use Rattle.loader.specs.declared.Incoming.{Incoming}
 use Rattle.loader.specs.declared.Config.{Config}
 use Rattle.loader.specs.declared.Progress.{Progress}
 use Rattle.loader.specs.declared.State.{State}
-use Rattle.loader.specs.declared.Answer.{Answer}
-use Rattle.loader.specs.declared.Answer.the-variants.{Continue, Stopped, Started}
-use Rattle.loader.specs.declared.Stop.the-variants.{HeaderBit, Command, BodyLength, Digest}
-use Rattle.loader.specs.declared.Received.{Received}
 use Rattle.loader.specs.declared.gathering.Step.{Step}
 use Rattle.loader.specs.declared.gathering.Step.the-variants.{More, Whole, Bad}
 use Rattle.loader.specs.declared.gathering.Gathered.{Gathered}
-use Rattle.loader.specs.declared.acting.Deed.{Deed}
-use Rattle.loader.specs.declared.acting.Deed.the-variants as deed
+use Rattle.loader.specs.declared.acting.Action.{Action}
+use Rattle.loader.specs.declared.acting.Action.the-variants as action
 
 -- ---- gathering: "Header byte"
 
@@ -59,56 +54,55 @@ gathered i b = cond (eqb (i .got) 0) (opened (headerAt b) i b) (continued (heade
 -- ---- what a whole frame asks for: the table of commands
 
 -- stop 24 is a wrong body length
-abbrev pub sized : ℕ → ℕ → Deed → Deed
-sized wanted n d = cond (eqb n wanted) d deed.WrongLength
+abbrev pub sized : ℕ → ℕ → Action → Action
+sized wanted n d = cond (eqb n wanted) d action.WrongLength
 
 -- by the command byte and the body's length; stop 23 is a command that is not allowed, unknown ones included
-abbrev pub deedWaiting : ℕ → ℕ → Deed
-deedWaiting c n =
-    cond (eqb c 0x01) (sized 1 n deed.Name)
-    (cond (eqb c 0x08) (sized 1 n deed.Udi)
-    (cond (eqb c 0x03) (sized 128 n deed.Load) deed.NotAllowed))
+abbrev pub actionWaiting : ℕ → ℕ → Action
+actionWaiting c n =
+    cond (eqb c 0x01) (sized 1 n action.Name)
+    (cond (eqb c 0x08) (sized 1 n action.Udi)
+    (cond (eqb c 0x03) (sized 128 n action.Load) action.WrongCommand))
 
-abbrev pub deedLoading : ℕ → ℕ → Deed
-deedLoading c n = cond (eqb c 0x05) (sized 128 n deed.Block) deed.NotAllowed
+abbrev pub actionLoading : ℕ → ℕ → Action
+actionLoading c n = cond (eqb c 0x05) (sized 128 n action.Block) action.WrongCommand
 
-abbrev pub deedIn : Phase → ℕ → ℕ → Deed
-deedIn phase.Waiting c n = deedWaiting c n
-deedIn phase.Loading c n = deedLoading c n
-deedIn phase.Started c n = deed.NotAllowed
-deedIn phase.Stopped c n = deed.NotAllowed
+abbrev pub actionIn : Phase → ℕ → ℕ → Action
+actionIn phase.Waiting c n = actionWaiting c n
+actionIn phase.Loading c n = actionLoading c n
+actionIn phase.Started c n = action.WrongCommand
+actionIn phase.Stopped c n = action.WrongCommand
 
 -- ---- what is then done: "Commands and replies"
 
--- an answer with neither CDI nor digest
-abbrev pub plainly : Answer → ℕ → State → Received
-plainly a n s = record { answer = a; reply = n; state = s; cdi = zeros 32; digest = zeros 32 }
+-- an outcome with neither CDI nor digest
+abbrev pub plain : Report → ℕ → State → List ℕ → List ℕ → List ℕ → Outcome
+plain report reply s room ram uds =
+    record { report = report; reply = reply; state = s; cdi = zeros 32; digest = zeros 32; room = room; ram = ram; uds = uds }
 
--- the state between frames
-abbrev pub between : State → Progress → State
-between s p = record { incoming = idle; config = s .config; progress = p }
-
-abbrev pub stopped : Answer → State → Received
-stopped a s = plainly a 0 (ended phase.Stopped (s .config .«ram_len»))
-
-abbrev pub frameOf : Incoming → Frame
-frameOf i = record { header = i .header; body = i .body }
+-- stop k, without a reply
+abbrev pub stopping : ℕ → State → List ℕ → List ℕ → List ℕ → Outcome
+stopping k s room ram uds = plain (stopped k) 0 (ended phase.Stopped (s .config .«ram_len»)) room ram uds
 
 -- the room with a reply at its front: only reply bytes are written
 unfoldable pub putIn : List ℕ → List ℕ → List ℕ
 putIn room reply = reply ++ drop (length reply) room
 
--- the session goes on after a reply
+-- a reply, after which the session goes on
 abbrev pub replying : Reply → State → List ℕ → List ℕ → List ℕ → Outcome
-replying r s room ram uds = outcome (plainly Continue (r .len + 1) s) (putIn room (sent r)) ram uds
+replying r s room ram uds = plain continues (r .len + 1) s (putIn room (sent r)) ram uds
 
--- a load that is taken
-abbrev pub loaded : Load → Progress
-loaded l = record { phase = phase.Loading; size = l .size; block = 0; «uss_used» = usesUss l; uss = l .uss }
+-- the state between frames
+abbrev pub between : State → Progress → State
+between s p = record { incoming = idle; config = s .config; progress = p }
 
--- the load that a whole frame is, and whether it is taken
+-- the bytes of the frame that was gathered
+abbrev pub frameIn : State → List ℕ
+frameIn s = s .incoming .header ∷ s .incoming .body
+
+-- the load that the frame is, and whether it is taken
 abbrev pub loadOf : State → Load
-loadOf s = loadIn (bytesOf (frameOf (s .incoming)))
+loadOf s = loadIn (frameIn s)
 
 abbrev pub takes : State → Bool
 takes s = goodLoad (s .config .«ram_len») (loadOf s)
@@ -117,38 +111,49 @@ takes s = goodLoad (s .config .«ram_len») (loadOf s)
 unfoldable pub loadAnswer : State → Reply
 loadAnswer s = loadReply (s .incoming .header) (takes s)
 
+-- a load that is taken: the head is then loading
+abbrev pub loaded : Load → Progress
+loaded l = record { phase = phase.Loading; size = l .size; block = 0; «uss_used» = usesUss l; uss = l .uss }
+
 unfoldable pub afterLoad : State → Progress
 afterLoad s = cond (takes s) (loaded (loadOf s)) (s .progress)
 
--- only the block's bytes below n are written in RAM
+-- RAM after block k of a program of n bytes: only bytes below n are stored
 abbrev pub storedIn : List ℕ → List ℕ → ℕ → ℕ → List ℕ
 storedIn ram f n k = paste ram (placeOf k) (carriedBy f) (countIn n k)
 
 abbrev pub nextBlock : Progress → Progress
 nextBlock p = record { phase = p .phase; size = p .size; block = p .block + 1; «uss_used» = p .«uss_used»; uss = p .uss }
 
--- type 5 requires a digest, type 4 none
+-- type 5 compares the digest with the record's, type 4 does not
 abbrev pub allowed : Config → List ℕ → Bool
 allowed c d = cond (c .verify) (same d (c .required)) true
 
--- a start gives the CDI, the digest d, the address and the size; the UDS is read only here
-unfoldable pub startOf : State → List ℕ → List ℕ → Received
-startOf s d uds =
+-- the CDI of a start
+abbrev pub cdiAt : State → List ℕ → List ℕ → List ℕ
+cdiAt s d uds = cdiOf (bytes uds) (s .config .chained) (s .config .«measured_id») d (s .progress .«uss_used») (s .progress .uss)
+
+-- a start gives the CDI, the digest d, the address and the size; each word of the UDS is then zero
+unfoldable pub starting : List ℕ → State → List ℕ → List ℕ → List ℕ → Outcome
+starting d s room ram uds =
     record {
-      answer = Started 0x40000000 (s .progress .size);
+      report = started 0x40000000 (s .progress .size);
       reply = 129;
       state = ended phase.Started (s .config .«ram_len»);
-      cdi = cdiOf (bytes uds) (s .config .chained) (s .config .«measured_id») d (s .progress .«uss_used») (s .progress .uss);
+      cdi = cdiAt s d uds;
       digest = d;
+      room = room;
+      ram = ram;
+      uds = zeros 8;
     }
 
--- the program has the digest d: the last reply is given, and then the head starts, or stops with 25
+-- the program has the digest d: the last reply is written, and then the head starts, or stops with 25
 unfoldable pub finishedWith : List ℕ → State → List ℕ → List ℕ → List ℕ → Outcome
 finishedWith d s room ram uds =
     let room1 = putIn room (sent (digestReply (s .incoming .header) d)) in
     cond (allowed (s .config) d)
-    (outcome (startOf s d uds) room1 ram (zeros 8))
-    (outcome (plainly (Stopped Digest) 129 (ended phase.Stopped (s .config .«ram_len»))) room1 ram uds)
+    (starting d s room1 ram uds)
+    (plain (stopped 25) 129 (ended phase.Stopped (s .config .«ram_len»)) room1 ram uds)
 
 -- the first n bytes of RAM are measured
 abbrev pub finished : State → List ℕ → List ℕ → List ℕ → Outcome
@@ -158,24 +163,23 @@ unfoldable pub actedBlock : State → List ℕ → List ℕ → List ℕ → Out
 actedBlock s room ram uds =
     let n = s .progress .size in
     let k = s .progress .block in
-    let ram1 = storedIn ram (bytesOf (frameOf (s .incoming))) n k in
+    let ram1 = storedIn ram (frameIn s) n k in
     cond (isLast n k)
     (finished s room ram1 uds)
     (replying (blockReply (s .incoming .header)) (between s (nextBlock (s .progress))) room ram1 uds)
 
-abbrev pub performed : Deed → State → List ℕ → List ℕ → List ℕ → Outcome
-performed deed.Name s room ram uds = replying (nameReply (s .incoming .header)) (between s (s .progress)) room ram uds
-performed deed.Udi s room ram uds = replying (udiReply (s .incoming .header) (s .config .udi)) (between s (s .progress)) room ram uds
-performed deed.Load s room ram uds = replying (loadAnswer s) (between s (afterLoad s)) room ram uds
-performed deed.Block s room ram uds = actedBlock s room ram uds
-performed deed.NotAllowed s room ram uds = outcome (stopped (Stopped Command) s) room ram uds
-performed deed.WrongLength s room ram uds = outcome (stopped (Stopped BodyLength) s) room ram uds
+abbrev pub performed : Action → State → List ℕ → List ℕ → List ℕ → Outcome
+performed action.Name s room ram uds = replying (nameReply (s .incoming .header)) (between s (s .progress)) room ram uds
+performed action.Udi s room ram uds = replying (udiReply (s .incoming .header) (s .config .udi)) (between s (s .progress)) room ram uds
+performed action.Load s room ram uds = replying (loadAnswer s) (between s (afterLoad s)) room ram uds
+performed action.Block s room ram uds = actedBlock s room ram uds
+performed action.WrongCommand s room ram uds = stopping 23 s room ram uds
+performed action.WrongLength s room ram uds = stopping 24 s room ram uds
 
 -- a whole frame for the firmware
 unfoldable pub acted : State → List ℕ → List ℕ → List ℕ → Outcome
 acted s room ram uds =
-    let f = bytesOf (frameOf (s .incoming)) in
-    performed (deedIn (s .progress .phase) (commandIn f) (bodyLen (headerAt (s .incoming .header)))) s room ram uds
+    performed (actionIn (s .progress .phase) (commandIn (frameIn s)) (bodyLen (headerAt (s .incoming .header)))) s room ram uds
 
 -- ---- a call: "Numbers of refused calls and of stops"
 
@@ -192,23 +196,22 @@ abbrev pub withIncoming : State → Incoming → State
 withIncoming s i = record { incoming = i; config = s .config; progress = s .progress }
 
 abbrev pub afterByte : Step → State → List ℕ → List ℕ → List ℕ → Outcome
-afterByte More s room ram uds = outcome (plainly Continue 0 s) room ram uds
-afterByte Bad s room ram uds = outcome (stopped (Stopped HeaderBit) s) room ram uds
+afterByte More s room ram uds = plain continues 0 s room ram uds
+afterByte Bad s room ram uds = stopping 22 s room ram uds
 afterByte Whole s room ram uds = acted s room ram uds
 
 -- a byte of a call that is not refused
-unfoldable pub heard : State → ℕ → List ℕ → List ℕ → List ℕ → Outcome
-heard s b room ram uds =
+unfoldable pub processed : State → ℕ → List ℕ → List ℕ → List ℕ → Outcome
+processed s b room ram uds =
     let g = gathered (s .incoming) b in
     afterByte (g .step) (withIncoming s (g .incoming)) room ram uds
 
 -- a refused call changes nothing
 abbrev pub refusing : ℕ → State → List ℕ → List ℕ → List ℕ → Outcome
-refusing k s room ram uds =
-    record { report = refused k; reply = 0; state = s; cdi = zeros 32; digest = zeros 32; room = room; ram = ram; uds = uds }
+refusing k s room ram uds = plain (refused k) 0 s room ram uds
 
 -- document 01's hearing
 unfoldable pub step : State → ℕ → List ℕ → List ℕ → List ℕ → Outcome
 step s b room ram uds =
     let k = refusal s (length room) (length ram) (length uds) in
-    cond (eqb k 0) (heard s b room ram uds) (refusing k s room ram uds)
+    cond (eqb k 0) (processed s b room ram uds) (refusing k s room ram uds)

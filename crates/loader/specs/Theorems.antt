@@ -61,7 +61,7 @@ pub record Loader : Type 0 where
   -- the reported number and values settle the answer
   pub answers : (x y : Answer) → reportOf x ≡ reportOf y → x ≡ y
   pub call : (s : State) (b : ℕ) (room ram uds : List ℕ) → Call s b room ram uds
-  -- a good frame heard from its header to its last byte: one for the firmware is whole, with its body at the front of the gathered bytes; one
+  -- a good frame processed from its header to its last byte: one for the firmware is whole, with its body at the front of the gathered bytes; one
   -- for another endpoint leaves nothing
   pub frame : (i : Incoming) (h id ep n : ℕ) (body : List ℕ) → i .got ≡ 0 → length (i .body) ≡ 128 → headerAt h ≡ good id ep n → length body ≡ n
       → gatheredAll i (h ∷ body)

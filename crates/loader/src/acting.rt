@@ -6,7 +6,8 @@ ghost use lib.ListN.{length};
 ghost use Rattle.protocol.specs.Replies.{sent};
 ghost use Rattle.loader.specs.State.{zeros, progressOk, loadingOk, ended};
 ghost use Rattle.loader.specs.Answers.{outcome};
-ghost use Rattle.loader.specs.Machine.{plainly, between, frameOf, deedIn, deedWaiting, deedLoading, loaded, afterLoad, loadAnswer, nextBlock, allowed, startOf, putIn, finished, actedBlock, acted};
+ghost use Rattle.loader.specs.Machine.{between, actionIn, actionWaiting, actionLoading, loaded, afterLoad, loadAnswer, nextBlock, allowed, putIn, finished, actedBlock, acted};
+ghost use Rattle.loader.specs.Steps.{plainly, frameOf, startOf};
 use super::Answer;
 use super::Config;
 use super::Incoming;
@@ -20,13 +21,13 @@ use protocol::Load;
 use protocol::Reply;
 
 // What a whole frame asks for.
-pub enum Deed {
+pub enum Action {
     Name,
     Udi,
     Load,
     Block,
     // The command is not allowed in this phase, or unknown.
-    NotAllowed,
+    WrongCommand,
     // The command has another body length.
     WrongLength,
 }
@@ -56,54 +57,54 @@ pub fn stop(why: Stop, s: State) -> Received
 }
 
 // A command while waiting, by its number and its body's length.
-fn deed_waiting(command: u8, len: u8) -> Deed
-    ensures { λ r. ⌜ r ≡ deedWaiting command len ⌝ }
+fn action_waiting(command: u8, len: u8) -> Action
+    ensures { λ r. ⌜ r ≡ actionWaiting command len ⌝ }
 {
     match command {
         0x01 => if len == 1 {
-            Deed::Name
+            Action::Name
         } else {
-            Deed::WrongLength
+            Action::WrongLength
         },
         0x08 => if len == 1 {
-            Deed::Udi
+            Action::Udi
         } else {
-            Deed::WrongLength
+            Action::WrongLength
         },
         0x03 => if len == 128 {
-            Deed::Load
+            Action::Load
         } else {
-            Deed::WrongLength
+            Action::WrongLength
         },
-        0x05 => Deed::NotAllowed,
-        0 | 2 | 4 | 6..=7 | 9..=255 => Deed::NotAllowed,
+        0x05 => Action::WrongCommand,
+        0 | 2 | 4 | 6..=7 | 9..=255 => Action::WrongCommand,
     }
 }
 
 // A command while loading.
-fn deed_loading(command: u8, len: u8) -> Deed
-    ensures { λ r. ⌜ r ≡ deedLoading command len ⌝ }
+fn action_loading(command: u8, len: u8) -> Action
+    ensures { λ r. ⌜ r ≡ actionLoading command len ⌝ }
 {
     match command {
         0x05 => if len == 128 {
-            Deed::Block
+            Action::Block
         } else {
-            Deed::WrongLength
+            Action::WrongLength
         },
-        0x01 | 0x03 | 0x08 => Deed::NotAllowed,
-        0 | 2 | 4 | 6..=7 | 9..=255 => Deed::NotAllowed,
+        0x01 | 0x03 | 0x08 => Action::WrongCommand,
+        0 | 2 | 4 | 6..=7 | 9..=255 => Action::WrongCommand,
     }
 }
 
 // A command.
-fn decide(phase: Phase, command: u8, len: u8) -> Deed
-    ensures { λ r. ⌜ r ≡ deedIn phase command len ⌝ }
+fn decide(phase: Phase, command: u8, len: u8) -> Action
+    ensures { λ r. ⌜ r ≡ actionIn phase command len ⌝ }
 {
     match phase {
-        Phase::Waiting => deed_waiting(command, len),
-        Phase::Loading => deed_loading(command, len),
-        Phase::Started => Deed::NotAllowed,
-        Phase::Stopped => Deed::NotAllowed,
+        Phase::Waiting => action_waiting(command, len),
+        Phase::Loading => action_loading(command, len),
+        Phase::Started => Action::WrongCommand,
+        Phase::Stopped => Action::WrongCommand,
     }
 }
 
@@ -264,11 +265,11 @@ pub fn act(s: State, room: &mut [u8], ram: &mut [u8], uds: &mut [u32]) -> Receiv
     let c = s.config;
     let udi = c.udi;
     match decide(phase, body[0], super::states::body_len(i.header)) {
-        Deed::Name => answer(s, p, protocol::name_reply(i.header), room),
-        Deed::Udi => answer(s, p, protocol::udi_reply(i.header, udi), room),
-        Deed::Load => act_load(s, room),
-        Deed::Block => act_block(s, room, ram, uds),
-        Deed::NotAllowed => stop(Stop::Command, s),
-        Deed::WrongLength => stop(Stop::BodyLength, s),
+        Action::Name => answer(s, p, protocol::name_reply(i.header), room),
+        Action::Udi => answer(s, p, protocol::udi_reply(i.header, udi), room),
+        Action::Load => act_load(s, room),
+        Action::Block => act_block(s, room, ram, uds),
+        Action::WrongCommand => stop(Stop::Command, s),
+        Action::WrongLength => stop(Stop::BodyLength, s),
     }
 }

@@ -11,7 +11,7 @@ ghost use Prim.Native.Nat.{_≤_};
 ghost use lib.ListN.{length};
 ghost use Rattle.loader.specs.State.{inRange};
 ghost use Rattle.loader.specs.Answers.{outcome, admissionNumber};
-ghost use Rattle.loader.specs.Machine.{refusal, withIncoming, heard, step};
+ghost use Rattle.loader.specs.Machine.{refusal, withIncoming, processed, step};
 
 // Where a session stands.
 pub enum Phase {
@@ -151,12 +151,12 @@ fn with_incoming(s: State, incoming: Incoming) -> State
 }
 
 // A byte of an admitted call: it is gathered, and a frame that is whole with it is acted on.
-fn hear(s: State, byte: u8, room: &mut [u8], ram: &mut [u8], uds: &mut [u32]) -> Received
+fn process(s: State, byte: u8, room: &mut [u8], ram: &mut [u8], uds: &mut [u32]) -> Received
     requires { ⌜ inRange s ≡ true ⌝ }
     requires { ⌜ 129 ≤ length (now room) ⌝ }
     requires { ⌜ length (now ram) ≡ s .config .«ram_len» ⌝ }
     requires { ⌜ length (now uds) ≡ 8 ⌝ }
-    ensures { λ r. ⌜ outcome r (now (room .exit)) (now (ram .exit)) (now (uds .exit)) ≡ heard s byte (now (room .entry)) (now (ram .entry)) (now (uds .entry)) ⌝ }
+    ensures { λ r. ⌜ outcome r (now (room .exit)) (now (ram .exit)) (now (uds .exit)) ≡ processed s byte (now (room .entry)) (now (ram .entry)) (now (uds .entry)) ⌝ }
 {
     let g = gathering::gather(s.incoming, byte);
     let step = g.step;
@@ -174,6 +174,6 @@ pub fn receive(s: State, byte: u8, room: &mut [u8], ram: &mut [u8], uds: &mut [u
 {
     match admit(s, room.len(), ram.len(), uds.len()) {
         Admission::Refused(why) => acting::plain(Answer::Refused(why), 0, s),
-        Admission::Admitted => hear(s, byte, room, ram, uds),
+        Admission::Admitted => process(s, byte, room, ram, uds),
     }
 }

@@ -1,4 +1,4 @@
--- A refusal is the number that admit gives; otherwise the call has what hear asks for.
+-- A refusal is the number that admit gives; otherwise the call has what process asks for.
 use Rattle.loader.proofs.Steps.{refused-as, admitted-as, admitted}
 use Rattle.loader.specs.declared.Admission.{Admission}
 use Rattle.loader.specs.Answers.{admissionNumber}
@@ -8,8 +8,8 @@ use borrow.Author.Needs.{needs}
 use Rattle.loader.proofs.receive.Statement.{statement}
 use Rattle.loader.proofs.receive.Tie as tie
 
-hear-requires : tie.Need-hear-requires
-hear-requires c κs = let z = c .before .before .before .before .before .before .before .before .before in
+process-requires : tie.Need-process-requires
+process-requires c κs = let z = c .before .before .before .before .before .before .before .before .before in
     let a = z .args in
     let y = c .before .before .before .before .before .admit in
     let e = sym (y .ensures) ∙ ap (λ (x : Admission). admissionNumber x) (c .before .before .before .enum-told .given .1) in
@@ -28,7 +28,7 @@ returns-2 c = let z = c .before .before .before .before .before .before .before 
     let a = z .args in
     let y = c .before .before .before .before .before .before .before .before .before .before .before .before .admit in
     let e = ap (λ (x : Admission). admissionNumber x) (sym (c .before .before .before .before .before .before .before .before .before .before .enum-told .given .1)) ∙ y .ensures in
-    c .before .before .before .before .before .before .hear .ensures ∙ admitted-as (a .s) (a .byte) (a .room .now) (a .ram .now) (a .uds .now) e
+    c .before .before .before .before .before .before .process .ensures ∙ admitted-as (a .s) (a .byte) (a .room .now) (a .ram .now) (a .uds .now) e
 
 pub receive-spec : {M : Type 1} → statement M
 receive-spec =
@@ -38,7 +38,7 @@ receive-spec =
     (λ c. search needs)
     (λ c κs. search needs)
     (λ c. search needs)
-    hear-requires
+    process-requires
     returns
     (λ c. search needs)
     (λ c. search needs)

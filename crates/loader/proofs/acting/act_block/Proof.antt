@@ -1,7 +1,8 @@
 -- The block is stored; whether it is the last decides the rest.
 use Rattle.loader.proofs.Steps.{replies}
 use Rattle.loader.proofs.Ranges.{loading-facts, block-within}
-use Rattle.loader.specs.Machine.{frameOf, storedIn, finished, between, nextBlock, actedBlock}
+use Rattle.loader.specs.Machine.{storedIn, finished, between, nextBlock, actedBlock}
+use Rattle.loader.specs.Steps.{frameOf}
 use Rattle.protocol.specs.declared.Frame.{Frame}
 use Rattle.protocol.specs.Commands.{bytesOf}
 use lib.ListN.{length}

@@ -4,10 +4,10 @@ use Rattle.loader.proofs.acting.decide.Statement.{statement}
 use Rattle.loader.proofs.acting.decide.Tie as tie
 
 returns : tie.Need-returns
-returns c = rw (c .before .enum-told .given .1) (c .deed-waiting .ensures)
+returns c = rw (c .before .enum-told .given .1) (c .action-waiting .ensures)
 
 returns-2 : tie.Need-returns-2
-returns-2 c = rw (c .before .enum-told2 .given .1) (c .deed-loading .ensures)
+returns-2 c = rw (c .before .enum-told2 .given .1) (c .action-loading .ensures)
 
 pub decide-spec : {M : Type 1} → statement M
 decide-spec =

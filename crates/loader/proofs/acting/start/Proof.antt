@@ -1,5 +1,4 @@
 -- The secret is read before it is cleared.
-use Rattle.loader.specs.Machine.{startOf}
 use lib.ListN.{replicate}
 use Prim.Native.Nat.{ℕ}
 use mathlib.Core.Path.{ap, _∙_}
@@ -8,7 +7,6 @@ use Rattle.loader.proofs.acting.start.Statement.{statement}
 use Rattle.loader.proofs.acting.start.Tie as tie
 
 returns : tie.Need-returns
-unfolding startOf
 returns c = (
   rw (c .ended .ensures, c .before .before .before .before .before .derive .ensures, c .before .before .before .before .before .before .before .before .secret-bytes .ensures),
   c .before .before .before .clear .ensures ∙ ap (λ (n : ℕ). replicate n 0) (c .before .before .before .before .before .before .before .before .before .before .before .before .before .pre),

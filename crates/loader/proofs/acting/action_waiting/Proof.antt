@@ -3,8 +3,8 @@ use Rattle.loader.proofs.Commands.{not-waiting, other}
 use types.Run.{miss}
 use mathlib.Core.List.{[], _∷_}
 use borrow.Author.Tests.{eq-eqb, ne-eqb}
-use Rattle.loader.proofs.acting.deed_waiting.Statement.{statement}
-use Rattle.loader.proofs.acting.deed_waiting.Tie as tie
+use Rattle.loader.proofs.acting.action_waiting.Statement.{statement}
+use Rattle.loader.proofs.acting.action_waiting.Tie as tie
 
 returns : tie.Need-returns
 returns c = simp (c .before .match .keys1, eq-eqb _ _ (c .if1 .taken))
@@ -36,8 +36,8 @@ returns-9 : tie.Need-returns-9
 returns-9 c = let r = c .match .rest .0 .0 in
     not-waiting (c .before .args .command) (c .before .args .len) (r .0 .0 .1) (r .0 .1) (r .1)
 
-pub deed-waiting-spec : {M : Type 1} → statement M
-deed-waiting-spec =
+pub action-waiting-spec : {M : Type 1} → statement M
+action-waiting-spec =
     tie.close
     (tie.spec
     returns

@@ -3,8 +3,8 @@ use Rattle.loader.proofs.Commands.{not-loading, other}
 use types.Run.{miss}
 use mathlib.Core.List.{[], _∷_}
 use borrow.Author.Tests.{eq-eqb, ne-eqb}
-use Rattle.loader.proofs.acting.deed_loading.Statement.{statement}
-use Rattle.loader.proofs.acting.deed_loading.Tie as tie
+use Rattle.loader.proofs.acting.action_loading.Statement.{statement}
+use Rattle.loader.proofs.acting.action_loading.Tie as tie
 
 returns : tie.Need-returns
 returns c = simp (c .before .match .keys1, eq-eqb _ _ (c .if1 .taken))
@@ -21,5 +21,5 @@ returns-4 c = let x = c .before .args .command in not-loading x (c .before .args
 returns-5 : tie.Need-returns-5
 returns-5 c = not-loading (c .before .args .command) (c .before .args .len) (c .match .rest .0 .0 .1)
 
-pub deed-loading-spec : {M : Type 1} → statement M
-deed-loading-spec = tie.close (tie.spec returns returns-2 returns-3 returns-4 returns-5)
+pub action-loading-spec : {M : Type 1} → statement M
+action-loading-spec = tie.close (tie.spec returns returns-2 returns-3 returns-4 returns-5)

@@ -1,11 +1,11 @@
 -- What the byte leads to decides which definition the outcome is.
-use Rattle.loader.proofs.Steps.{heard-as}
+use Rattle.loader.proofs.Steps.{processed-as}
 use Rattle.loader.proofs.Ranges.{range-facts}
 use native.Mathlib.Omega.{arith}
 use mathlib.Core.Path.{sym, _∙_}
 use borrow.Author.Needs.{needs}
-use Rattle.loader.proofs.hear.Statement.{statement}
-use Rattle.loader.proofs.hear.Tie as tie
+use Rattle.loader.proofs.process.Statement.{statement}
+use Rattle.loader.proofs.process.Tie as tie
 
 gather-requires : tie.Need-gather-requires
 gather-requires c κs = let z = c .before .before .before in range-facts (z .args .s) (z .pre .0) .incoming
@@ -24,7 +24,7 @@ returns c = let z = c .before .before .before .before .before .before .before .b
     let room = a .room .now in
     let ram = a .ram .now in
     let uds = a .uds .now in
-    let w = heard-as (a .s) (a .byte) room ram uds (g .before .gather .result) _ (g .with-incoming .result) (g .before .gather .ensures) (sym (c .before .enum-told .given .1)) (g .with-incoming .ensures) in
+    let w = processed-as (a .s) (a .byte) room ram uds (g .before .gather .result) _ (g .with-incoming .result) (g .before .gather .ensures) (sym (c .before .enum-told .given .1)) (g .with-incoming .ensures) in
     rw (c .plain .ensures) w
 
 returns-2 : tie.Need-returns-2
@@ -34,7 +34,7 @@ returns-2 c = let z = c .before .before .before .before .before .before .before 
     let room = a .room .now in
     let ram = a .ram .now in
     let uds = a .uds .now in
-    let w = heard-as (a .s) (a .byte) room ram uds (g .before .gather .result) _ (g .with-incoming .result) (g .before .gather .ensures) (sym (c .before .enum-told2 .given .1)) (g .with-incoming .ensures) in
+    let w = processed-as (a .s) (a .byte) room ram uds (g .before .gather .result) _ (g .with-incoming .result) (g .before .gather .ensures) (sym (c .before .enum-told2 .given .1)) (g .with-incoming .ensures) in
     rw (c .stop .ensures) w
 
 returns-3 : tie.Need-returns-3
@@ -44,11 +44,11 @@ returns-3 c = let z = c .before .before .before .before .before .before .before 
     let room = a .room .now in
     let ram = a .ram .now in
     let uds = a .uds .now in
-    let w = heard-as (a .s) (a .byte) room ram uds (g .before .gather .result) _ (g .with-incoming .result) (g .before .gather .ensures) (sym (c .before .before .before .before .before .before .before .before .before .before .enum-told3 .given .1)) (g .with-incoming .ensures) in
+    let w = processed-as (a .s) (a .byte) room ram uds (g .before .gather .result) _ (g .with-incoming .result) (g .before .gather .ensures) (sym (c .before .before .before .before .before .before .before .before .before .before .enum-told3 .given .1)) (g .with-incoming .ensures) in
     c .before .before .before .before .before .before .act .ensures ∙ w
 
-pub hear-spec : {M : Type 1} → statement M
-hear-spec =
+pub process-spec : {M : Type 1} → statement M
+process-spec =
     tie.close
     (tie.spec
     gather-requires
