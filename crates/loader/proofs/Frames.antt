@@ -11,10 +11,11 @@ use lib.Seq.{drop-cons, paste, paste-zero, paste-suc}
 use borrow.Author.Tests.{ne-eqb, lt-ltb, le-ltb}
 use Rattle.framing.specs.Header.{good, headerAt}
 use Rattle.loader.specs.State.{bodyLen, idle}
-use Rattle.loader.specs.Machine.{kept, gathered}
+use Rattle.loader.specs.Machine.{kept, gathered, processed, step}
 use Rattle.loader.specs.Theorems.{gatheredOn, gatheredAll}
 use Rattle.loader.proofs.Ranges.{body-small, length-some}
 use Rattle.loader.specs.declared.Incoming.{Incoming}
+use Rattle.loader.specs.declared.State.{State}
 use Rattle.loader.specs.declared.gathering.Step.the-variants.{More, Whole}
 use Rattle.loader.specs.declared.gathering.Gathered.{Gathered}
 
@@ -92,3 +93,13 @@ module _ (i : Incoming) (h id ep n : ℕ) (body : List ℕ) (idles : i .got ≡ 
           (cond t (record { step = Whole; incoming = record { header = h; got = n + 1; body = paste (i .body) 0 body n } }) (record { step = More; incoming = idle }))
       go true = refl
       go false = refl
+
+-- a byte of a frame for another endpoint
+passed : (i : Incoming) (b b' id ep n : ℕ) → (i .got ≡ 0 → ⊥) → headerAt (i .header) ≡ good id ep n → (ep ≡ 2 → ⊥) → gathered i b ≡ gathered i b'
+unfolding gathered
+passed i b b' id ep n g h e = rw (ne-eqb (i .got) 0 g, h, ne-eqb ep 2 e)
+
+pub passed-over : (s : State) (b b' : ℕ) (room ram uds : List ℕ) (id ep n : ℕ) → (s .incoming .got ≡ 0 → ⊥) → headerAt (s .incoming .header) ≡ good id ep n
+    → (ep ≡ 2 → ⊥) → step s b room ram uds ≡ step s b' room ram uds
+unfolding step processed
+passed-over s b b' room ram uds id ep n g h e = rw (passed (s .incoming) b b' id ep n g h e)

@@ -12,7 +12,7 @@ use Rattle.loader.specs.Machine.{starting, refusing, step}
 use Rattle.loader.specs.Theorems.{Loader, number}
 use Rattle.loader.proofs.Ranges.{range-facts}
 use Rattle.loader.proofs.Ways.{by-step}
-use Rattle.loader.proofs.Frames.{frame-whole}
+use Rattle.loader.proofs.Frames.{frame-whole, passed-over}
 use Rattle.loader.specs.declared.Phase.the-variants as phase
 use Rattle.loader.specs.declared.State.{State}
 use Rattle.loader.specs.declared.Refusal.{Refusal}
@@ -212,5 +212,6 @@ loader = record {
     starts = starts s b room ram uds;
   };
   frame = frame-whole;
+  passed-over = passed-over;
   ends = λ p m. (refl, refl, refl, refl, refl, refl, refl);
 }

@@ -9,7 +9,8 @@ use Rattle.endian.proofs.byte.Statement.{statement}
 use Rattle.endian.proofs.byte.Tie as tie
 
 returns : tie.Need-returns
-returns c = let n = c .before .args .n in
+returns c =
+    let n = c .before .args .n in
     let i = c .before .args .i in
     let m : 2 ^ 32 ≤ 2 ^ (8 * i) = pow-mono {i = 32} {j = 8 * i} (omega arith) in
     let p = pow-pos (8 * i) in

@@ -11,34 +11,39 @@ returns c = let i = c .before .in-range in rw (← (i .ensures), not-true (i .re
 
 returns-2 : tie.Need-returns-2
 unfolding refusal
-returns-2 c = let i = c .before .before .before .in-range in
+returns-2 c =
+    let i = c .before .before .before .in-range in
     let l = c .before .is-live in
     rw (← (i .ensures), not-false (i .result) (c .before .before .if1 .left), ← (l .ensures), not-true (l .result) (c .if2 .taken))
 
 returns-3 : tie.Need-returns-3
 unfolding refusal
-returns-3 c = let b = c .before in
+returns-3 c =
+    let b = c .before in
     let i = b .before .before .before .in-range in
     let l = b .before .is-live in
     rw (← (i .ensures), not-false (i .result) (b .before .before .if1 .left), ← (l .ensures), not-false (l .result) (b .if2 .left), lt-ltb _ _ (c .if3 .taken))
 
 returns-4 : tie.Need-returns-4
 unfolding refusal
-returns-4 c = let b = c .before .before .before in
+returns-4 c =
+    let b = c .before .before .before in
     let i = b .before .before .before .in-range in
     let l = b .before .is-live in
     rw (← (i .ensures), not-false (i .result) (b .before .before .if1 .left), ← (l .ensures), not-false (l .result) (b .if2 .left), le-ltb _ _ (c .before .before .if3 .left), ne-eqb _ _ (c .if4 .taken))
 
 returns-5 : tie.Need-returns-5
 unfolding refusal
-returns-5 c = let b = c .before .before .before .before in
+returns-5 c =
+    let b = c .before .before .before .before in
     let i = b .before .before .before .in-range in
     let l = b .before .is-live in
     rw (← (i .ensures), not-false (i .result) (b .before .before .if1 .left), ← (l .ensures), not-false (l .result) (b .if2 .left), le-ltb _ _ (c .before .before .before .if3 .left), eq-eqb _ _ (c .before .if4 .left), ne-eqb _ _ (c .if5 .taken))
 
 returns-6 : tie.Need-returns-6
 unfolding refusal
-returns-6 c = let b = c .before .before .before .before in
+returns-6 c =
+    let b = c .before .before .before .before in
     let i = b .before .before .before .in-range in
     let l = b .before .is-live in
     rw (← (i .ensures), not-false (i .result) (b .before .before .if1 .left), ← (l .ensures), not-false (l .result) (b .if2 .left), le-ltb _ _ (c .before .before .before .if3 .left), eq-eqb _ _ (c .before .if4 .left), eq-eqb _ _ (c .if5 .left))

@@ -11,14 +11,16 @@ gather-requires : tie.Need-gather-requires
 gather-requires c κs = let z = c .before .before .before in range-facts (z .args .s) (z .pre .0) .incoming
 
 act-requires : tie.Need-act-requires
-act-requires c κs = let z = c .before .before .before .before .before .before .before .before .before .before in
+act-requires c κs =
+    let z = c .before .before .before .before .before .before .before .before .before .before in
     let f = range-facts (z .args .s) (z .pre .0) in
     let m = z .pre .1 .1 .0 in
     let h = f .ram-small in
     (rw (c .before .before .before .before .before .with-incoming .ensures, m) (f .progress), (z .pre .1 .0, (omega arith, z .pre .1 .1 .1)))
 
 returns : tie.Need-returns
-returns c = let z = c .before .before .before .before .before .before .before .before in
+returns c =
+    let z = c .before .before .before .before .before .before .before .before in
     let a = z .args in
     let g = c .before .before .before in
     let room = a .room .now in
@@ -28,7 +30,8 @@ returns c = let z = c .before .before .before .before .before .before .before .b
     rw (c .plain .ensures) w
 
 returns-2 : tie.Need-returns-2
-returns-2 c = let z = c .before .before .before .before .before .before .before .before in
+returns-2 c =
+    let z = c .before .before .before .before .before .before .before .before in
     let a = z .args in
     let g = c .before .before .before in
     let room = a .room .now in
@@ -38,7 +41,8 @@ returns-2 c = let z = c .before .before .before .before .before .before .before 
     rw (c .stop .ensures) w
 
 returns-3 : tie.Need-returns-3
-returns-3 c = let z = c .before .before .before .before .before .before .before .before .before .before .before .before .before .before .before .before .before in
+returns-3 c =
+    let z = c .before .before .before .before .before .before .before .before .before .before .before .before .before .before .before .before .before in
     let a = z .args in
     let g = c .before .before .before .before .before .before .before .before .before .before .before .before in
     let room = a .room .now in

@@ -9,7 +9,8 @@ use Rattle.loader.proofs.receive.Statement.{statement}
 use Rattle.loader.proofs.receive.Tie as tie
 
 process-requires : tie.Need-process-requires
-process-requires c κs = let z = c .before .before .before .before .before .before .before .before .before in
+process-requires c κs =
+    let z = c .before .before .before .before .before .before .before .before .before in
     let a = z .args in
     let y = c .before .before .before .before .before .admit in
     let e = sym (y .ensures) ∙ ap (λ (x : Admission). admissionNumber x) (c .before .before .before .enum-told .given .1) in
@@ -17,14 +18,16 @@ process-requires c κs = let z = c .before .before .before .before .before .befo
     (f .range, (f .room-fits, (f .ram-same, f .words)))
 
 returns : tie.Need-returns
-returns c = let z = c .before .before .before .before .before .before .before .before in
+returns c =
+    let z = c .before .before .before .before .before .before .before .before in
     let a = z .args in
     let y = c .before .before .before .before .admit in
     let e = ap (λ (x : Admission). admissionNumber x) (sym (c .before .before .why .given .1)) ∙ y .ensures in
     refused-as (a .s) (a .byte) (a .room .now) (a .ram .now) (a .uds .now) _ (c .plain .result) (c .plain .ensures) e
 
 returns-2 : tie.Need-returns-2
-returns-2 c = let z = c .before .before .before .before .before .before .before .before .before .before .before .before .before .before .before .before in
+returns-2 c =
+    let z = c .before .before .before .before .before .before .before .before .before .before .before .before .before .before .before .before in
     let a = z .args in
     let y = c .before .before .before .before .before .before .before .before .before .before .before .before .admit in
     let e = ap (λ (x : Admission). admissionNumber x) (sym (c .before .before .before .before .before .before .before .before .before .before .enum-told .given .1)) ∙ y .ensures in

@@ -19,14 +19,16 @@ unfolding udiReply
 answer-requires-2 c κs = (search needs, rw (c .before .udi-reply .ensures) (omega arith))
 
 act-block-requires : tie.Need-act-block-requires
-act-block-requires c κs = let z = c .before .before .before .before .before .before .before .before .before .before .before .before .before .before .before in
+act-block-requires c κs =
+    let z = c .before .before .before .before .before .before .before .before .before .before .before .before .before .before .before in
     let s = z .args .s in
     let d = c .before .before .before .before .before in
     let e = sym (c .before .before .before .enum-told4 .given .1) ∙ d .decide .ensures in
     (z .pre .1 .0, (block-loading (s .progress .phase) _ _ (s .progress) (length (z .args .ram .now)) (sym e) (z .pre .0), (z .pre .1 .1 .0, z .pre .1 .1 .1)))
 
 returns : tie.Need-returns
-returns c = let z = c .before .before .before .before .before .before .before .before .before .before .before .before .before .before .before .before .before in
+returns c =
+    let z = c .before .before .before .before .before .before .before .before .before .before .before .before .before .before .before .before .before in
     let a = z .args in
     let d = c .before .before .before .before .before .before .before in
     let room = a .room .now in
@@ -38,7 +40,8 @@ returns c = let z = c .before .before .before .before .before .before .before .b
     replies (nameReply (a .s .incoming .header)) (r .result) (between (a .s) (a .s .progress)) (x .result) room _ ram _ uds (r .ensures) (x .ensures .0) (x .ensures .1) refl ∙ w
 
 returns-2 : tie.Need-returns-2
-returns-2 c = let z = c .before .before .before .before .before .before .before .before .before .before .before .before .before .before .before .before .before in
+returns-2 c =
+    let z = c .before .before .before .before .before .before .before .before .before .before .before .before .before .before .before .before .before in
     let a = z .args in
     let d = c .before .before .before .before .before .before .before in
     let room = a .room .now in
@@ -50,7 +53,8 @@ returns-2 c = let z = c .before .before .before .before .before .before .before 
     replies (udiReply (a .s .incoming .header) (a .s .config .udi)) (r .result) (between (a .s) (a .s .progress)) (x .result) room _ ram _ uds (r .ensures) (x .ensures .0) (x .ensures .1) refl ∙ w
 
 returns-3 : tie.Need-returns-3
-returns-3 c = let z = c .before .before .before .before .before .before .before .before .before .before .before .before .before .before .before .before in
+returns-3 c =
+    let z = c .before .before .before .before .before .before .before .before .before .before .before .before .before .before .before .before in
     let a = z .args in
     let d = c .before .before .before .before .before .before in
     let room = a .room .now in
@@ -61,7 +65,8 @@ returns-3 c = let z = c .before .before .before .before .before .before .before 
     replies (loadAnswer (a .s)) (loadAnswer (a .s)) (between (a .s) (afterLoad (a .s))) (x .result) room _ ram _ uds refl (x .ensures .0) (x .ensures .1) refl ∙ w
 
 returns-4 : tie.Need-returns-4
-returns-4 c = let z = c .before .before .before .before .before .before .before .before .before .before .before .before .before .before .before .before .before .before .before .before .before .before in
+returns-4 c =
+    let z = c .before .before .before .before .before .before .before .before .before .before .before .before .before .before .before .before .before .before .before .before .before .before in
     let a = z .args in
     let d = c .before .before .before .before .before .before .before .before .before .before .before .before in
     let room = a .room .now in
@@ -71,7 +76,8 @@ returns-4 c = let z = c .before .before .before .before .before .before .before 
     c .before .before .before .before .before .before .act-block .ensures ∙ w
 
 returns-5 : tie.Need-returns-5
-returns-5 c = let z = c .before .before .before .before .before .before .before .before .before .before .before .before .before in
+returns-5 c =
+    let z = c .before .before .before .before .before .before .before .before .before .before .before .before .before in
     let a = z .args in
     let d = c .before .before .before in
     let room = a .room .now in
@@ -81,7 +87,8 @@ returns-5 c = let z = c .before .before .before .before .before .before .before 
     rw (c .stop .ensures) w
 
 returns-6 : tie.Need-returns-6
-returns-6 c = let z = c .before .before .before .before .before .before .before .before .before .before .before .before .before in
+returns-6 c =
+    let z = c .before .before .before .before .before .before .before .before .before .before .before .before .before in
     let a = z .args in
     let d = c .before .before .before in
     let room = a .room .now in

@@ -16,13 +16,15 @@ use Rattle.loader.proofs.acting.act_block.Statement.{statement}
 use Rattle.loader.proofs.acting.act_block.Tie as tie
 
 store-requires : tie.Need-store-requires
-store-requires c κs = let z = c .before .before .before .before .before .before .before in
+store-requires c κs =
+    let z = c .before .before .before .before .before .before .before in
     let p = z .args .s .progress in
     let m = length (z .args .ram .now) in
     block-within p m (loading-facts p m (z .pre .1 .0))
 
 finish-requires : tie.Need-finish-requires
-finish-requires c κs = let z = c .before .before .before .before .before .before .before .before .before .before .before .before .before .before .before in
+finish-requires c κs =
+    let z = c .before .before .before .before .before .before .before .before .before .before .before .before .before .before .before in
     let p = z .args .s .progress in
     let m = length (z .args .ram .now) in
     let f = loading-facts p m (z .pre .1 .0) in
@@ -32,7 +34,8 @@ finish-requires c κs = let z = c .before .before .before .before .before .befor
 
 returns : tie.Need-returns
 unfolding actedBlock
-returns c = let y = c .before .before .before .before .before .before .before .before .before .before .before .before .before .before in
+returns c =
+    let y = c .before .before .before .before .before .before .before .before .before .before .before .before .before .before in
     let z = y .before .before .before .before .before .before .before .before in
     let a = z .args in
     let p = a .s .progress in
@@ -41,7 +44,8 @@ returns c = let y = c .before .before .before .before .before .before .before .b
     rw (← k, c .before .before .before .before .before .before .before .before .before .before .if1 .taken) (c .before .before .before .before .before .before .finish .ensures ∙ ap (λ (m : List ℕ). finished (a .s) (a .room .now) m (a .uds .now)) e)
 
 next-block-requires : tie.Need-next-block-requires
-next-block-requires c κs = let z = c .before .before .before .before .before .before .before .before .before .before .before .before in
+next-block-requires c κs =
+    let z = c .before .before .before .before .before .before .before .before .before .before .before .before in
     let p = z .args .s .progress in
     let m = length (z .args .ram .now) in
     let f = loading-facts p m (z .pre .1 .0) in
@@ -56,7 +60,8 @@ answer-requires c κs = (search needs, rw (c .before .block-reply .ensures) (ome
 
 returns-2 : tie.Need-returns-2
 unfolding actedBlock
-returns-2 c = let y = c .before .before .before .before .before .before .before .before .before .before in
+returns-2 c =
+    let y = c .before .before .before .before .before .before .before .before .before .before in
     let z = y .before .before .before .before .before .before .before .before in
     let a = z .args in
     let p = a .s .progress in

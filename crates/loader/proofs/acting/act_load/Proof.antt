@@ -11,7 +11,8 @@ unfolding loadReply
 answer-requires c κs = (search needs, rw (c .before .before .before .load-reply .ensures) (omega arith))
 
 returns : tie.Need-returns
-returns c = let y = c .before .before .before .before .before .before in
+returns c =
+    let y = c .before .before .before .before .before .before in
     let z = y .before .before .before .before .before .before .before in
     let s = z .args .s in
     let f = y .before .before .before .frame in
@@ -28,7 +29,8 @@ unfolding loadReply
 answer-requires-2 c κs = (search needs, rw (c .before .before .load-reply .ensures) (omega arith))
 
 returns-2 : tie.Need-returns-2
-returns-2 c = let y = c .before .before .before .before .before in
+returns-2 c =
+    let y = c .before .before .before .before .before in
     let z = y .before .before .before .before .before .before .before in
     let s = z .args .s in
     let f = y .before .before .before .frame in

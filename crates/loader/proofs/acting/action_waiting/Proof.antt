@@ -28,12 +28,14 @@ returns-7 : tie.Need-returns-7
 returns-7 c = simp (c .match .keys4)
 
 returns-8 : tie.Need-returns-8
-returns-8 c = let x = c .before .args .command in
+returns-8 c =
+    let x = c .before .args .command in
     let o = c .match .keys5 in
     not-waiting x (c .before .args .len) (other (0 ∷ 2 ∷ 4 ∷ []) 1 x (miss (0 ∷ 2 ∷ 4 ∷ []) 1 tt) o) (other (0 ∷ 2 ∷ 4 ∷ []) 8 x (miss (0 ∷ 2 ∷ 4 ∷ []) 8 tt) o) (other (0 ∷ 2 ∷ 4 ∷ []) 3 x (miss (0 ∷ 2 ∷ 4 ∷ []) 3 tt) o)
 
 returns-9 : tie.Need-returns-9
-returns-9 c = let r = c .match .rest .0 .0 in
+returns-9 c =
+    let r = c .match .rest .0 .0 in
     not-waiting (c .before .args .command) (c .before .args .len) (r .0 .0 .1) (r .0 .1) (r .1)
 
 pub action-waiting-spec : {M : Type 1} → statement M

@@ -8,7 +8,10 @@ returns : tie.Need-returns
 returns c = let v = c .before .before .args .c .verify in rw (not-true v (c .if1 .taken))
 
 returns-2 : tie.Need-returns-2
-returns-2 c = let b = c .before .before .before .before in let v = b .before .before .args .c .verify in rw (not-false v (b .if1 .left)) (c .equal .ensures)
+returns-2 c =
+    let b = c .before .before .before .before in
+    let v = b .before .before .args .c .verify in
+    rw (not-false v (b .if1 .left)) (c .equal .ensures)
 
 pub allowed-spec : {M : Type 1} → statement M
 allowed-spec =

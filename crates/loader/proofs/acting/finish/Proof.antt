@@ -16,7 +16,8 @@ unfolding digestReply
 put-requires c κs = (search needs, rw (c .before .digest-reply .ensures) (omega arith))
 
 returns : tie.Need-returns
-returns c = let y = c .before .before .before .before .before .before .before .before in
+returns c =
+    let y = c .before .before .before .before .before .before .before .before in
     let z = c .before .before .before .before .before .before .before .before .before .before .before .before .before .before .before .before .before .before in
     let room = z .args .room .now in
     let ram = z .args .ram .now in
@@ -29,7 +30,8 @@ returns c = let y = c .before .before .before .before .before .before .before .b
     ∙ ap (λ (x : List ℕ). finishedWith x (z .args .s) room ram uds) (d .ensures)
 
 returns-2 : tie.Need-returns-2
-returns-2 c = let y = c .before .before .before .before .before .before in
+returns-2 c =
+    let y = c .before .before .before .before .before .before in
     let z = c .before .before .before .before .before .before .before .before .before .before .before .before .before .before .before .before in
     let room = z .args .room .now in
     let ram = z .args .ram .now in

@@ -33,7 +33,8 @@ loop-less : tie.Need-loop-less Inv-loop μ-loop
 loop-less c = omega arith
 
 loop-again : tie.Need-loop-again Inv-loop μ-loop
-loop-again c = let l = c .before .loop in
+loop-again c =
+    let l = c .before .loop in
     let w = c .before .before .args .words .now in
     (omega arith, ap (λ (x : List ℕ). set x (l .i) 0) (l .inv .1) ∙ fill-more (l .i) 0 w (omega arith), simp length-set (l .inv .2))
 
@@ -41,7 +42,8 @@ same-length : tie.Need-same-length Inv-loop μ-loop
 same-length c = c .before .loop .inv .2
 
 returns : tie.Need-returns Inv-loop μ-loop
-returns c = let l = c .before .loop in
+returns c =
+    let l = c .before .loop in
     let w = c .before .before .args .words .now in
     let e : l .i ≡ length w = omega arith in
     l .inv .1 ∙ rw (e, drop-length, append-nil)

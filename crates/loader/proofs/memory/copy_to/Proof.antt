@@ -9,7 +9,8 @@ use Rattle.loader.proofs.memory.copy_to.Statement.{statement}
 use Rattle.loader.proofs.memory.copy_to.Tie as tie
 
 returns : tie.Need-returns
-returns c = let a = c .before .before .before .before .before .before .args in
+returns c =
+    let a = c .before .before .before .before .before .before .args in
     let s = a .src .now in
     let d = a .dst .now in
     let n : a .at + length s - a .at ≡ length s = omega arith in

@@ -12,7 +12,8 @@ slice-aggregate-hash-2 : tie.Need-slice-aggregate-hash-2
 slice-aggregate-hash-2 c = let a = c .before .before .before .args in rw length-take (omega arith)
 
 returns : tie.Need-returns
-returns c = let a = c .before .before .before .before .before .before .args in
+returns c =
+    let a = c .before .before .before .before .before .before .args in
     let l : length (take (a .n) (a .ram .now)) ≤ 4294967295 = rw length-take (omega arith) in
     c .before .hash .ensures .1 ∙ digest-32 (take (a .n) (a .ram .now)) (replicate 32 0) l refl
 

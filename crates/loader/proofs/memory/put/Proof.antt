@@ -20,13 +20,17 @@ slice-aggregate-copy-to : tie.Need-slice-aggregate-copy-to
 slice-aggregate-copy-to c = let l = prefix-length (c .before .before .before .before) in sym l
 
 copy-to-requires : tie.Need-copy-to-requires
-copy-to-requires c κs = let z = c .before .before .before .before in let l = prefix-length z in rw (length-set, l) (omega arith)
+copy-to-requires c κs =
+    let z = c .before .before .before .before in
+    let l = prefix-length z in
+    rw (length-set, l) (omega arith)
 
 same-length : tie.Need-same-length
 same-length c = c .before .before .copy-to .kept .0 ∙ simp length-set
 
 returns : tie.Need-returns
-returns c = let z = c .before .before .before .before .before .before .before in
+returns c =
+    let z = c .before .before .before .before .before .before .before in
     let a = z .args in
     c .before .before .copy-to .ensures ∙ put-front (a .room .now) (take (a .r .len) (a .r .body)) (a .r .header) (omega arith)
 

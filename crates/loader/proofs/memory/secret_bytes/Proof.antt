@@ -30,12 +30,14 @@ loop-less : tie.Need-loop-less Inv-loop μ-loop
 loop-less c = omega arith
 
 loop-again : tie.Need-loop-again Inv-loop μ-loop
-loop-again c = let l = c .before .before .loop in
+loop-again c =
+    let l = c .before .before .loop in
     let w = c .before .before .before .before .args .words .now in
     (omega arith, rw (c .byte-at .ensures, l .inv .1) (bytes-more w (replicate 32 0) (l .i) (omega arith) (omega arith)))
 
 returns : tie.Need-returns Inv-loop μ-loop
-returns c = let l = c .before .loop in
+returns c =
+    let l = c .before .loop in
     let w = c .before .before .before .args .words .now in
     let e : l .i ≡ 32 = omega arith in
     rw (l .inv .1, e) (all-bytes w (replicate 32 0) refl)

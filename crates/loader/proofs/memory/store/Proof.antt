@@ -13,10 +13,14 @@ body-length : (z : tie.Start) → length (z .args .f .body) ≡ 128
 body-length z = search (needs, z .good .1 .0)
 
 part-copy-to-end : tie.Need-part-copy-to-end
-part-copy-to-end c = let l = body-length (c .before .before .before .before .before .before) in let e = c .before .before .before .before .count-in .ensures in omega arith
+part-copy-to-end c =
+    let l = body-length (c .before .before .before .before .before .before) in
+    let e = c .before .before .before .before .count-in .ensures in
+    omega arith
 
 returns : tie.Need-returns
-returns c = let z = c .before .before .before .before .before .before .before .before .before .before in
+returns c =
+    let z = c .before .before .before .before .before .before .before .before .before .before in
     let a = z .args in
     let p = c .before .before .before .before .before .before .before .place-of in
     let q = c .before .before .before .before .before .before .before .before .count-in in

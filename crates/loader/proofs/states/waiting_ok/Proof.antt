@@ -14,7 +14,8 @@ returns-3 : tie.Need-returns-3
 returns-3 c = simp (c .if3 .taken, eq-eqb _ _ (c .before .if2 .left), eq-eqb _ _ (c .before .before .before .if1 .left))
 
 returns-4 : tie.Need-returns-4
-returns-4 c = let b = c .before .before .before .before in
+returns-4 c =
+    let b = c .before .before .before .before in
     simp (c .equal .ensures, b .if3 .left, eq-eqb _ _ (b .before .if2 .left), eq-eqb _ _ (b .before .before .before .if1 .left))
 
 pub waiting-ok-spec : {M : Type 1} → statement M
