@@ -1,17 +1,22 @@
 -- The theorem of specs/Theorems.antt. Each claim about a call is shown for each way that a call can go (`by-step`).
-use Prim.Native.Nat.{ℕ}
+use Prim.Native.Nat.{ℕ, _+_, _≤_}
 use mathlib.Core.Bool.{true, cond}
 use mathlib.Core.Path.{_≡_, refl, sym, ap, _∙_}
-use mathlib.Core.List.{List}
+use mathlib.Core.List.{List, []}
 use native.Mathlib.Omega.{arith}
+use lib.ListN.{length, drop}
+use lib.Seq.{drop-at}
 use lib.Dec.{eqb}
 use borrow.Author.Tests.{ne-eqb, eq-eqb, le-leb}
 use Rattle.loader.specs.State.{zeros, incomingOk, progressOk, ramOk, inRange, ended}
 use Rattle.loader.specs.Answers.{refused, continues, stopped, started, refusalNumber, stopNumber, reportOf, Outcome}
-use Rattle.loader.specs.Machine.{starting, refusing, step}
+use Rattle.loader.specs.Machine.{starting, putIn, refusing, step}
 use Rattle.loader.specs.Theorems.{Loader, number}
 use Rattle.loader.proofs.Ranges.{range-facts}
 use Rattle.loader.proofs.Ways.{by-step}
+use Rattle.protocol.proofs.Proved.{protocol}
+use Rattle.protocol.specs.Replies.{sent, digestReply}
+use Rattle.protocol.specs.declared.Reply.{Reply}
 use Rattle.loader.proofs.Frames.{frame-whole, passed-over}
 use Rattle.loader.specs.declared.Phase.the-variants as phase
 use Rattle.loader.specs.declared.State.{State}
@@ -103,10 +108,10 @@ module _ (s : State) (b : ℕ) (room ram uds : List ℕ) where
         refused = λ k e n r. r;
         more = λ i o r. in-range _ (ram-ok s r) o (range-facts s r .progress);
         halt = λ w n r. stopped-ok m (ram-ok s r);
-        reply = λ q r. in-range _ (ram-ok s r) refl (range-facts s r .progress);
-        progress = λ q p ram1 o r. in-range _ (ram-ok s r) refl o;
-        start = λ i d room1 ram1 r. started-ok m (ram-ok s r);
-        fail = λ room1 ram1 r. stopped-ok m (ram-ok s r);
+        reply = λ q f r. in-range _ (ram-ok s r) refl (range-facts s r .progress);
+        progress = λ q f p ram1 o r. in-range _ (ram-ok s r) refl o;
+        start = λ i d ram1 r. started-ok m (ram-ok s r);
+        fail = λ i d ram1 r. stopped-ok m (ram-ok s r);
       })
 
   refused-only : (k : ℕ) → step s b room ram uds .report ≡ refused k → (k ≡ number s b room ram uds) × (k ≡ 0 → ⊥)
@@ -117,10 +122,10 @@ module _ (s : State) (b : ℕ) (room ram uds : List ℕ) where
         refused = λ j e n q. let z : k ≡ j = cc in (z ∙ e, λ x. n (sym z ∙ x));
         more = λ i o q. apart (cc);
         halt = λ w n q. apart (cc);
-        reply = λ r q. apart (cc);
-        progress = λ r p ram1 o q. apart (cc);
-        start = λ i d room1 ram1 q. apart (cc);
-        fail = λ room1 ram1 q. apart (cc);
+        reply = λ r f q. apart (cc);
+        progress = λ r f p ram1 o q. apart (cc);
+        start = λ i d ram1 q. apart (cc);
+        fail = λ i d ram1 q. apart (cc);
       })
 
   refused-when : (k : ℕ) → (k ≡ number s b room ram uds) × (k ≡ 0 → ⊥) → step s b room ram uds .report ≡ refused k
@@ -135,10 +140,49 @@ module _ (s : State) (b : ℕ) (room ram uds : List ℕ) where
         refused = λ j e n q. let z : j ≡ k = cc in ap (λ (x : ℕ). refusing x s room ram uds) z;
         more = λ i o q. apart (cc);
         halt = λ w n q. apart (cc);
-        reply = λ r q. apart (cc);
-        progress = λ r p ram1 o q. apart (cc);
-        start = λ i d room1 ram1 q. apart (cc);
-        fail = λ room1 ram1 q. apart (cc);
+        reply = λ r f q. apart (cc);
+        progress = λ r f p ram1 o q. apart (cc);
+        start = λ i d ram1 q. apart (cc);
+        fail = λ i d ram1 q. apart (cc);
+      })
+
+  fits : step s b room ram uds .reply ≤ 129
+  unfolding starting
+  fits =
+      by-step s b room ram uds (λ (o : Outcome). o .reply ≤ 129)
+      (record {
+        refused = λ k e n. omega arith;
+        more = λ i o. omega arith;
+        halt = λ k n. omega arith;
+        reply = λ r f. let l = f .0 in omega arith;
+        progress = λ r f p ram1 o. let l = f .0 in omega arith;
+        start = λ i d ram1. omega arith;
+        fail = λ i d ram1. omega arith;
+      })
+
+  abbrev Beyond : Outcome → Type 0
+  Beyond o = drop (o .reply) (o .room) ≡ drop (o .reply) room
+
+  after-reply : (r : Reply) (n : ℕ) → length (sent r) ≡ n → drop n (putIn room (sent r)) ≡ drop n room
+  unfolding putIn
+  after-reply r n e = drop-at (sent r) (drop (length (sent r)) room) n e ∙ ap (λ (k : ℕ). drop k room) e
+
+  after-digest : (h : ℕ) (d : List ℕ) → drop 129 (putIn room (sent (digestReply h d))) ≡ drop 129 room
+  unfolding digestReply
+  after-digest h d = after-reply (digestReply h d) 129 (protocol .lengths h [] d true .4 .1)
+
+  beyond : Beyond (step s b room ram uds)
+  unfolding starting
+  beyond =
+      by-step s b room ram uds Beyond
+      (record {
+        refused = λ k e n. refl;
+        more = λ i o. refl;
+        halt = λ k n. refl;
+        reply = λ r f. after-reply r (r .len + 1) (f .1);
+        progress = λ r f p ram1 o. after-reply r (r .len + 1) (f .1);
+        start = λ i d ram1. after-digest (i .header) d;
+        fail = λ i d ram1. after-digest (i .header) d;
       })
 
   goes-on : step s b room ram uds .report ≡ continues
@@ -152,10 +196,10 @@ module _ (s : State) (b : ℕ) (room ram uds : List ℕ) where
         refused = λ j e n q. apart (cc);
         more = λ i o q. (refl, refl, refl, refl);
         halt = λ w n q. apart (cc);
-        reply = λ r q. (refl, refl, refl, refl);
-        progress = λ r p ram1 o q. (refl, refl, refl, refl);
-        start = λ i d room1 ram1 q. apart (cc);
-        fail = λ room1 ram1 q. apart (cc);
+        reply = λ r f q. (refl, refl, refl, refl);
+        progress = λ r f p ram1 o q. (refl, refl, refl, refl);
+        start = λ i d ram1 q. apart (cc);
+        fail = λ i d ram1 q. apart (cc);
       })
 
   abbrev Stops : ℕ → Outcome → Type 0
@@ -173,10 +217,10 @@ module _ (s : State) (b : ℕ) (room ram uds : List ℕ) where
         halt = λ j n q.
             let z : k ≡ j = cc in
             (refl, refl, refl, refl, rw (ne-eqb k 25 (λ x. n (sym z ∙ x))), λ x. (refl, refl));
-        reply = λ r q. apart (cc);
-        progress = λ r p ram1 o q. apart (cc);
-        start = λ i d room1 ram1 q. apart (cc);
-        fail = λ room1 ram1 q.
+        reply = λ r f q. apart (cc);
+        progress = λ r f p ram1 o q. apart (cc);
+        start = λ i d ram1 q. apart (cc);
+        fail = λ i d ram1 q.
             let z : k ≡ 25 = cc in
             (refl, refl, refl, refl, rw (eq-eqb k 25 z), λ x. absurd (x z));
       })
@@ -193,10 +237,10 @@ module _ (s : State) (b : ℕ) (room ram uds : List ℕ) where
         refused = λ j e n q. apart (cc);
         more = λ i o q. apart (cc);
         halt = λ w n q. apart (cc);
-        reply = λ r q. apart (cc);
-        progress = λ r p ram1 o q. apart (cc);
-        start = λ i d room1 ram1 q. (cc, cc, refl, refl, refl);
-        fail = λ room1 ram1 q. apart (cc);
+        reply = λ r f q. apart (cc);
+        progress = λ r f p ram1 o q. apart (cc);
+        start = λ i d ram1 q. (cc, cc, refl, refl, refl);
+        fail = λ i d ram1 q. apart (cc);
       })
 
 pub loader : Loader
@@ -207,6 +251,8 @@ loader = record {
     stays = stays s b room ram uds;
     refuses = λ k. (refused-only s b room ram uds k, refused-when s b room ram uds k);
     kept = kept s b room ram uds;
+    fits = fits s b room ram uds;
+    beyond = beyond s b room ram uds;
     goes-on = goes-on s b room ram uds;
     stops = stops s b room ram uds;
     starts = starts s b room ram uds;

@@ -43,17 +43,20 @@ module _ (s : State) (f : Frame) (l : Load) (g : Bool) (r : Reply)
   taken-is : g ≡ takes s
   taken-is = eg ∙ ap (λ (x : Load). goodLoad (s .config .«ram_len») x) load-is
 
-  pub load-answer : r ≡ loadAnswer s
+  answer : r ≡ loadAnswer s
   unfolding loadAnswer
-  load-answer = er ∙ ap (λ (x : Bool). loadReply (s .incoming .header) x) taken-is
+  answer = er ∙ ap (λ (x : Bool). loadReply (s .incoming .header) x) taken-is
 
-  pub load-taken : g ≡ true → loaded l ≡ afterLoad s
+  taken : g ≡ true → loaded l ≡ afterLoad s
   unfolding afterLoad
-  load-taken t = let e : takes s ≡ true = sym taken-is ∙ t in rw e (ap loaded load-is)
+  taken t = let e : takes s ≡ true = sym taken-is ∙ t in rw e (ap loaded load-is)
 
-  pub load-left : g ≡ false → s .progress ≡ afterLoad s
+  left : g ≡ false → s .progress ≡ afterLoad s
   unfolding afterLoad
-  load-left t = let e : takes s ≡ false = sym taken-is ∙ t in rw e
+  left t = let e : takes s ≡ false = sym taken-is ∙ t in rw e
+
+  pub load-made : (r ≡ loadAnswer s) × (g ≡ true → loaded l ≡ afterLoad s) × (g ≡ false → s .progress ≡ afterLoad s)
+  load-made = (answer, taken, left)
 
 -- after the last block
 module _ (s : State) (d room ram uds : List ℕ) (x : Received) (room' uds' : List ℕ)

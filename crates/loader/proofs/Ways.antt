@@ -2,19 +2,20 @@
 use Prim.Native.Nat.{ℕ, _+_, _/_, _<_}
 use mathlib.Core.Bool.{true, false}
 use mathlib.Core.Path.{_≡_, refl}
-use mathlib.Core.List.{List, [], _∷_}
+use mathlib.Core.List.{List, []}
 use native.Mathlib.Omega.{arith}
 use lib.Dec.{eqb, leb, ltb}
-use lib.ListN.{length, getD, take}
+use lib.ListN.{length, getD}
 use borrow.Author.Tests.{eqb-true, eqb-false, ltb-true, lt-ltb, le-leb, leb-true, ne-eqb}
 use Rattle.framing.specs.Header.{Reading, good, stop, headerAt}
-use Rattle.blake2s.specs.Rfc7693.{blake2s}
 use Rattle.protocol.specs.Commands.{isLast}
-use Rattle.protocol.specs.Replies.{nameReply, udiReply, blockReply}
+use Rattle.protocol.specs.Replies.{sent, nameReply, udiReply, blockReply, digestReply}
+use Rattle.protocol.specs.Theorems.{Framed}
+use Rattle.protocol.proofs.Proved.{protocol}
 use Rattle.protocol.specs.declared.Reply.{Reply}
 use Rattle.loader.specs.State.{bodyLen, incomingOk, loadingOk, progressIn, progressOk, ended}
 use Rattle.loader.specs.Answers.{stopped, continues, Outcome}
-use Rattle.loader.specs.Machine.{plain, stopping, starting, opened, continued, gathered, actionIn, between, replying, loaded, loadOf, takes, loadAnswer, afterLoad, storedIn, nextBlock, allowed, finishedWith, actedBlock, performed, acted, refusal, withIncoming, afterByte, processed, refusing, step}
+use Rattle.loader.specs.Machine.{putIn, plain, stopping, starting, opened, continued, gathered, actionIn, between, replying, loaded, loadOf, takes, loadAnswer, afterLoad, nextBlock, allowed, finishedWith, actedBlock, performed, acted, refusal, withIncoming, afterByte, processed, refusing, step}
 use Rattle.loader.proofs.Ranges.{both, by-test, length-some, loading-facts, no-block, range-facts}
 use Rattle.loader.proofs.Steps.{admitted}
 use Rattle.loader.specs.declared.Phase.{Phase}
@@ -81,36 +82,40 @@ module _ (s : State) (b : ℕ) (room ram uds : List ℕ) (P : Outcome → Type 0
     -- stops 22, 23 and 24
     pub halt : (k : ℕ) → (k ≡ 25 → ⊥) → P (stopping k s room ram uds)
     -- a query, or a load that is not taken
-    pub reply : (r : Reply) → P (replying r (between s (s .progress)) room ram uds)
+    pub reply : (r : Reply) → Framed r → P (replying r (between s (s .progress)) room ram uds)
     -- a load that is taken, or a block that is not the last
-    pub progress : (r : Reply) (p : Progress) (ram1 : List ℕ) → progressOk p (s .config .«ram_len») ≡ true → P (replying r (between s p) room ram1 uds)
+    pub progress : (r : Reply) → Framed r → (p : Progress) (ram1 : List ℕ) → progressOk p (s .config .«ram_len») ≡ true → P (replying r (between s p) room ram1 uds)
     -- the last block
-    pub start : (i : Incoming) (d room1 ram1 : List ℕ) → P (starting d (withIncoming s i) room1 ram1 uds)
-    pub fail : (room1 ram1 : List ℕ) → P (plain (stopped 25) 129 (ended phase.Stopped (s .config .«ram_len»)) room1 ram1 uds)
+    pub start : (i : Incoming) (d ram1 : List ℕ) → P (starting d (withIncoming s i) (putIn room (sent (digestReply (i .header) d))) ram1 uds)
+    pub fail : (i : Incoming) (d ram1 : List ℕ)
+        → P (plain (stopped 25) 129 (ended phase.Stopped (s .config .«ram_len»)) (putIn room (sent (digestReply (i .header) d))) ram1 uds)
 
   module _ (w : Ways) where
+    finish-ways : (i : Incoming) (d ram1 : List ℕ) → P (finishedWith d (withIncoming s i) room ram1 uds)
+    unfolding finishedWith
+    finish-ways i d ram1 = by-test P (allowed (s .config) d) _ _ (λ a. w .start i d ram1) (λ a. w .fail i d ram1)
+
     block-ways : (i : Incoming) → (isLast (s .progress .size) (s .progress .block) ≡ false → progressOk (nextBlock (s .progress)) (s .config .«ram_len») ≡ true)
         → P (actedBlock (withIncoming s i) room ram uds)
-    unfolding actedBlock finishedWith
+    unfolding actedBlock
     block-ways i next =
-        let ram1 = storedIn ram (i .header ∷ i .body) (s .progress .size) (s .progress .block) in
-        let d = blake2s [] (take (s .progress .size) ram1) 32 in
         by-test P (isLast (s .progress .size) (s .progress .block)) _ _
-        (λ l. by-test P (allowed (s .config) d) _ _ (λ a. w .start i d _ ram1) (λ a. w .fail _ ram1))
-        (λ l. w .progress (blockReply (i .header)) (nextBlock (s .progress)) ram1 (next l))
+        (λ l. finish-ways i _ _)
+        (λ l. w .progress (blockReply (i .header)) (protocol .lengths (i .header) [] [] true .3) (nextBlock (s .progress)) _ (next l))
 
     load-ways : (i : Incoming) → P (performed action.Load (withIncoming s i) room ram uds)
-    unfolding afterLoad
+    unfolding afterLoad loadAnswer
     load-ways i =
         let t = withIncoming s i in
+        let f = protocol .lengths (i .header) [] [] (takes t) .2 in
         by-test (λ (p : Progress). P (replying (loadAnswer t) (between s p) room ram uds)) (takes t) _ _
-        (λ g. w .progress (loadAnswer t) (loaded (loadOf t)) ram (loaded-ok t g))
-        (λ g. w .reply (loadAnswer t))
+        (λ g. w .progress (loadAnswer t) f (loaded (loadOf t)) ram (loaded-ok t g))
+        (λ g. w .reply (loadAnswer t) f)
 
     action-ways : (i : Incoming) (c n : ℕ) (d : Action) → actionIn (s .progress .phase) c n ≡ d → progressOk (s .progress) (s .config .«ram_len») ≡ true
         → P (performed d (withIncoming s i) room ram uds)
-    action-ways i c n action.Name e r = w .reply (nameReply (i .header))
-    action-ways i c n action.Udi e r = w .reply (udiReply (i .header) (s .config .udi))
+    action-ways i c n action.Name e r = w .reply (nameReply (i .header)) (protocol .lengths (i .header) [] [] true .0)
+    action-ways i c n action.Udi e r = w .reply (udiReply (i .header) (s .config .udi)) (protocol .lengths (i .header) (s .config .udi) [] true .1)
     action-ways i c n action.Load e r = load-ways i
     action-ways i c n action.Block e r = block-ways i (next-ok (s .progress .phase) c n (s .progress) (s .config .«ram_len») e r)
     action-ways i c n action.WrongCommand e r = w .halt 23 (λ z. omega arith)

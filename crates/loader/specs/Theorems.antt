@@ -1,11 +1,11 @@
 -- What is proved about a call, besides the promise of `receive`. The proof is `loader` in proofs/Proved.antt.
-use Prim.Native.Nat.{ℕ, _+_}
+use Prim.Native.Nat.{ℕ, _+_, _≤_}
 use mathlib.Core.Path.{_≡_}
 use mathlib.Core.Logic.{_↔_}
 use mathlib.Core.Bool.{true, cond}
 use mathlib.Core.List.{List, [], _∷_}
 use lib.Dec.{eqb}
-use lib.ListN.{length}
+use lib.ListN.{length, drop}
 use lib.Seq.{paste}
 use Rattle.framing.specs.Header.{good, headerAt}
 use Rattle.loader.specs.State.{zeros, inRange, idle, ended}
@@ -42,6 +42,9 @@ module _ (s : State) (b : ℕ) (room ram uds : List ℕ) where
     -- a call answers the number of a refusal exactly when that is the number of its state and what is lent, and then it returns what it was given
     pub refuses : (k : ℕ) → (step s b room ram uds .report ≡ refused k) ↔ ((k ≡ number) × (k ≡ 0 → ⊥))
     pub kept : (k : ℕ) → step s b room ram uds .report ≡ refused k → step s b room ram uds ≡ refusing k s room ram uds
+    -- a reply has at most 129 bytes, and beyond it the room is as it was
+    pub fits : step s b room ram uds .reply ≤ 129
+    pub beyond : drop (step s b room ram uds .reply) (step s b room ram uds .room) ≡ drop (step s b room ram uds .reply) room
     -- while the session goes on, what begin fixed and the UDS stay, and neither CDI nor digest is given
     pub goes-on : step s b room ram uds .report ≡ continues
         → (step s b room ram uds .state .config ≡ s .config) × (step s b room ram uds .uds ≡ uds)

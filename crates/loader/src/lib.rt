@@ -10,7 +10,7 @@ ghost use mathlib.Core.Bool.{true};
 ghost use Prim.Native.Nat.{_≤_};
 ghost use lib.ListN.{length};
 ghost use Rattle.loader.specs.State.{inRange};
-ghost use Rattle.loader.specs.Answers.{outcome, admissionNumber};
+ghost use Rattle.loader.specs.Answers.{refusalNumber, stopNumber, outcome, admissionNumber};
 ghost use Rattle.loader.specs.Machine.{refusal, withIncoming, processed, step};
 
 // Where a session stands.
@@ -107,6 +107,31 @@ pub struct Received {
     // The CDI and the program's digest at a start; otherwise zeros.
     pub cdi: [u8; 32],
     pub digest: [u8; 32],
+}
+
+// The number that document 01 gives a refusal.
+pub fn refusal_number(r: Refusal) -> u8
+    ensures { λ x. ⌜ x ≡ refusalNumber r ⌝ }
+{
+    match r {
+        Refusal::StateRange => 1,
+        Refusal::Ended => 2,
+        Refusal::ReplyRoom => 3,
+        Refusal::RamLength => 4,
+        Refusal::SecretLength => 5,
+    }
+}
+
+// The number that document 01 gives a stop.
+pub fn stop_number(s: Stop) -> u8
+    ensures { λ x. ⌜ x ≡ stopNumber s ⌝ }
+{
+    match s {
+        Stop::HeaderBit => 22,
+        Stop::Command => 23,
+        Stop::BodyLength => 24,
+        Stop::Digest => 25,
+    }
 }
 
 // Whether a call is admitted.

@@ -1,21 +1,22 @@
 -- The theorem of specs/Theorems.antt: literal cases compute, fields after a list of known length are the parts there, and the numbers of
 -- blocks are arithmetic.
-use Prim.Native.Nat.{ℕ, _+_, _-_, _/_, _%_, _≤_, _<_}
-use mathlib.Core.Path.{_≡_, refl, ap}
+use native.Mathlib.Numerals.{add-one}
+use Prim.Native.Nat.{ℕ, suc, _+_, _-_, _/_, _%_, _≤_, _<_}
+use mathlib.Core.Path.{_≡_, refl, sym, ap, _∙_}
 use mathlib.Core.Logic.{_⊎_, inl, inr}
 use mathlib.Core.Bool.{Bool, true, false, _&&_}
 use mathlib.Core.List.{List, [], _∷_, _++_}
 use native.Mathlib.Omega.{arith}
 use lib.Dec.{leb}
-use lib.ListN.{length, take, replicate}
+use lib.ListN.{length, take, replicate, length-take, length-append, length-replicate}
 use lib.Seq.{take-at, take-append-add}
 use borrow.Author.Tests.{eq-eqb, eqb-true, eqb-false, le-leb, leb-true}
 use Rattle.framing.specs.Header.{good, headerAt, headerByte, codeOf, frameId, inField}
 use Rattle.framing.proofs.Headers.{headers, written}
 use Rattle.blake2s.specs.Rfc7693.{word}
 use Rattle.protocol.specs.Commands.{loadIn, blocksFor, placeOf, countIn, isLast}
-use Rattle.protocol.specs.Replies.{replyHeader, sent, nameReply, udiReply, loadReply, blockReply, digestReply}
-use Rattle.protocol.specs.Theorems.{Protocol, loadWith}
+use Rattle.protocol.specs.Replies.{replyHeader, replyWith, filled, sent, nameReply, udiReply, loadReply, blockReply, digestReply}
+use Rattle.protocol.specs.Theorems.{Protocol, Framed, loadWith}
 
 fields : (h command flag : ℕ) (size uss rest : List ℕ) → length size ≡ 4 → length uss ≡ 32
     → loadIn (h ∷ command ∷ size ++ flag ∷ uss ++ rest) ≡ loadWith (word size 0) flag uss
@@ -57,6 +58,17 @@ of-length h n (inl e) = reply-header h n (rw e (omega arith))
 of-length h n (inr (inl e)) = reply-header h n (rw e (omega arith))
 of-length h n (inr (inr e)) = reply-header h n (rw e (omega arith))
 
+framed : (h n : ℕ) (bytes : List ℕ) → n ≤ 128 → Framed (replyWith h n (filled bytes))
+framed h n bytes l =
+    let e : length (take n (filled bytes)) ≡ n = rw (length-take, length-append, length-replicate) (omega arith) in
+    (l, ap suc e ∙ sym (add-one n))
+
+reply-lengths : (h : ℕ) (udi digest : List ℕ) (g : Bool)
+    → Framed (nameReply h) × Framed (udiReply h udi) × Framed (loadReply h g) × Framed (blockReply h) × Framed (digestReply h digest)
+unfolding nameReply udiReply loadReply blockReply digestReply
+reply-lengths h udi digest g =
+    ((omega arith, refl), framed h 32 (0x09 ∷ 0 ∷ udi) (omega arith), (omega arith, refl), (omega arith, refl), framed h 128 (0x07 ∷ 0 ∷ digest) (omega arith))
+
 -- the first n + k bytes of p, which has n, and of what follows
 front : (p z : List ℕ) (n k : ℕ) → length p ≡ n → take (n + k) (p ++ z) ≡ p ++ take k z
 front p z n k e = rw (← e) (take-append-add p z k)
@@ -80,6 +92,7 @@ protocol = record {
   full = full-block;
   last = last-block;
   header = of-length;
+  lengths = reply-lengths;
   name = refl;
   udi = udi-bytes;
   taken = refl;

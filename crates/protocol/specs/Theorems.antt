@@ -3,7 +3,7 @@
 use Prim.Native.Nat.{ℕ, _+_, _≤_, _<_}
 use mathlib.Core.Path.{_≡_}
 use mathlib.Core.Logic.{_↔_, _⊎_}
-use mathlib.Core.Bool.{true, false}
+use mathlib.Core.Bool.{Bool, true, false}
 use mathlib.Core.List.{List, [], _∷_, _++_}
 use lib.ListN.{length, replicate}
 use Rattle.framing.specs.Header.{good, headerAt, inField, frameId}
@@ -11,10 +11,15 @@ use Rattle.blake2s.specs.Rfc7693.{word}
 use Rattle.protocol.specs.Commands.{loadIn, goodLoad, usesUss, blocksFor, placeOf, countIn, isLast}
 use Rattle.protocol.specs.Replies.{replyHeader, sent, nameReply, udiReply, loadReply, blockReply, digestReply}
 use Rattle.protocol.specs.declared.Load.{Load}
+use Rattle.protocol.specs.declared.Reply.{Reply}
 
 -- a load of these fields
 abbrev pub loadWith : ℕ → ℕ → List ℕ → Load
 loadWith n flag uss = record { size = n; flag = flag; uss = uss }
+
+-- a reply is as long as it says, with its header, and has at most 129 bytes
+abbrev pub Framed : Reply → Type 0
+Framed r = (r .len ≤ 128) × (length (sent r) ≡ r .len + 1)
 
 pub record Protocol : Type 0 where
   -- the fields of a load one after the other: header, command, size (4), flag (1), USS (32), and what is ignored
@@ -34,6 +39,8 @@ pub record Protocol : Type 0 where
   pub last : (n k : ℕ) → 1 ≤ n → isLast n k ≡ true → placeOf k + countIn n k ≡ n
   -- a reply has the command's frame ID, endpoint 2, bits 7 and 2 zero and the length of its body
   pub header : (h n : ℕ) → (n ≡ 4) ⊎ ((n ≡ 32) ⊎ (n ≡ 128)) → headerAt (replyHeader h n) ≡ good (inField frameId h) 2 n
+  pub lengths : (h : ℕ) (udi digest : List ℕ) (good : Bool)
+      → Framed (nameReply h) × Framed (udiReply h udi) × Framed (loadReply h good) × Framed (blockReply h) × Framed (digestReply h digest)
   -- each reply as bytes
   pub name : sent (nameReply 0x10)
       ≡ 0x12 ∷ 0x02 ∷ 0x74 ∷ 0x6b ∷ 0x31 ∷ 0x20 ∷ 0x6d ∷ 0x6b ∷ 0x64 ∷ 0x66 ∷ 0x01 ∷ 0 ∷ 0 ∷ 0 ∷ 0 ∷ 0 ∷ 0

@@ -1,55 +1,47 @@
--- What the byte leads to decides which definition the outcome is.
-use Rattle.loader.proofs.Steps.{processed-as}
-use Rattle.loader.proofs.Ranges.{range-facts}
+-- What the byte leads to (`led`) says which definition the outcome is.
+use mathlib.Core.Path.{_≡_, sym, _∙_}
 use native.Mathlib.Omega.{arith}
-use mathlib.Core.Path.{sym, _∙_}
+use Rattle.loader.specs.Machine.{afterByte, processed}
+use Rattle.loader.specs.declared.gathering.Step.{Step}
+use Rattle.loader.proofs.Ranges.{range-facts}
+use Rattle.loader.proofs.Steps.{processed-as}
 use borrow.Author.Needs.{needs}
 use Rattle.loader.proofs.process.Statement.{statement}
 use Rattle.loader.proofs.process.Tie as tie
+
+-- the call, from where the next state is made
+abbrev call : tie.After-with-incoming → tie.Start
+call y = y .before .before .before .before .before
+
+led : (y : tie.After-with-incoming) (k : Step) → y .before .gather .result .step ≡ k
+    → afterByte k (y .with-incoming .result) (call y .args .room .now) (call y .args .ram .now) (call y .args .uds .now)
+    ≡ processed (call y .args .s) (call y .args .byte) (call y .args .room .now) (call y .args .ram .now) (call y .args .uds .now)
+led y k e =
+    let a = call y .args in
+    let g = y .before .gather in
+    let t = y .with-incoming in
+    processed-as (a .s) (a .byte) (a .room .now) (a .ram .now) (a .uds .now) (g .result) k (t .result) (g .ensures) (sym e) (t .ensures)
 
 gather-requires : tie.Need-gather-requires
 gather-requires c κs = let z = c .before .before .before in range-facts (z .args .s) (z .pre .0) .incoming
 
 act-requires : tie.Need-act-requires
 act-requires c κs =
-    let z = c .before .before .before .before .before .before .before .before .before .before in
+    let y = c .before .before .before .before .before in
+    let z = call y in
     let f = range-facts (z .args .s) (z .pre .0) in
     let m = z .pre .1 .1 .0 in
     let h = f .ram-small in
-    (rw (c .before .before .before .before .before .with-incoming .ensures, m) (f .progress), (z .pre .1 .0, (omega arith, z .pre .1 .1 .1)))
+    (rw (y .with-incoming .ensures, m) (f .progress), (z .pre .1 .0, (omega arith, z .pre .1 .1 .1)))
 
 returns : tie.Need-returns
-returns c =
-    let z = c .before .before .before .before .before .before .before .before in
-    let a = z .args in
-    let g = c .before .before .before in
-    let room = a .room .now in
-    let ram = a .ram .now in
-    let uds = a .uds .now in
-    let w = processed-as (a .s) (a .byte) room ram uds (g .before .gather .result) _ (g .with-incoming .result) (g .before .gather .ensures) (sym (c .before .enum-told .given .1)) (g .with-incoming .ensures) in
-    rw (c .plain .ensures) w
+returns c = rw (c .plain .ensures) (led (c .before .before .before) _ (c .before .enum-told .given .1))
 
 returns-2 : tie.Need-returns-2
-returns-2 c =
-    let z = c .before .before .before .before .before .before .before .before in
-    let a = z .args in
-    let g = c .before .before .before in
-    let room = a .room .now in
-    let ram = a .ram .now in
-    let uds = a .uds .now in
-    let w = processed-as (a .s) (a .byte) room ram uds (g .before .gather .result) _ (g .with-incoming .result) (g .before .gather .ensures) (sym (c .before .enum-told2 .given .1)) (g .with-incoming .ensures) in
-    rw (c .stop .ensures) w
+returns-2 c = rw (c .stop .ensures) (led (c .before .before .before) _ (c .before .enum-told2 .given .1))
 
 returns-3 : tie.Need-returns-3
-returns-3 c =
-    let z = c .before .before .before .before .before .before .before .before .before .before .before .before .before .before .before .before .before in
-    let a = z .args in
-    let g = c .before .before .before .before .before .before .before .before .before .before .before .before in
-    let room = a .room .now in
-    let ram = a .ram .now in
-    let uds = a .uds .now in
-    let w = processed-as (a .s) (a .byte) room ram uds (g .before .gather .result) _ (g .with-incoming .result) (g .before .gather .ensures) (sym (c .before .before .before .before .before .before .before .before .before .before .enum-told3 .given .1)) (g .with-incoming .ensures) in
-    c .before .before .before .before .before .before .act .ensures ∙ w
+returns-3 c = c .before .before .before .before .before .before .act .ensures ∙ led (c .before .before .before .before .before .before .before .before .before .before .before .before) _ (c .before .before .before .before .before .before .before .before .before .before .enum-told3 .given .1)
 
 pub process-spec : {M : Type 1} → statement M
 process-spec =
