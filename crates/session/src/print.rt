@@ -97,25 +97,12 @@ pub fn kept(yes: bool) {
     }
 }
 
-// Document 01's number of a refusal.
+// A refused call, by document 01's number.
 pub fn refusal(why: Refusal) {
-    let n: u64 = match why {
-        Refusal::StateRange => 1,
-        Refusal::Ended => 2,
-        Refusal::ReplyRoom => 3,
-        Refusal::RamLength => 4,
-        Refusal::SecretLength => 5,
-    };
-    count(b"X", n);
+    count(b"X", loader::refusal_number(why) as u64);
 }
 
-// Document 01's number of a stop.
+// A stop, by document 01's number.
 pub fn stop(why: Stop) {
-    let n: u64 = match why {
-        Stop::HeaderBit => 22,
-        Stop::Command => 23,
-        Stop::BodyLength => 24,
-        Stop::Digest => 25,
-    };
-    count(b"F", n);
+    count(b"F", loader::stop_number(why) as u64);
 }
