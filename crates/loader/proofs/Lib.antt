@@ -5,3 +5,4 @@ pub mod Steps
 pub mod Ways
 pub mod Frames
 pub mod Proved
+pub mod Pinned

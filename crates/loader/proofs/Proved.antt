@@ -244,7 +244,6 @@ module _ (s : State) (b : ℕ) (room ram uds : List ℕ) where
       })
 
 pub loader : Loader
-unfolding ended
 loader = record {
   answers = same-answer;
   call = λ s b room ram uds. record {
@@ -259,5 +258,4 @@ loader = record {
   };
   frame = frame-whole;
   passed-over = passed-over;
-  ends = λ p m. (refl, refl, refl, refl, refl, refl, refl);
 }

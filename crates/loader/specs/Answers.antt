@@ -7,8 +7,6 @@ use Rattle.loader.specs.declared.Stop.{Stop}
 use Rattle.loader.specs.declared.Stop.the-variants.{HeaderBit, Command, BodyLength, Digest}
 use Rattle.loader.specs.declared.Answer.{Answer}
 use Rattle.loader.specs.declared.Answer.the-variants.{Refused, Continue, Stopped, Started}
-use Rattle.loader.specs.declared.Admission as admission
-use Rattle.loader.specs.declared.Admission.the-variants as admits
 use Rattle.loader.specs.declared.State.{State}
 use Rattle.loader.specs.declared.Received.{Received}
 
@@ -41,11 +39,6 @@ reportOf (Refused r) = refused (refusalNumber r)
 reportOf Continue = continues
 reportOf (Stopped s) = stopped (stopNumber s)
 reportOf (Started address size) = started address size
-
--- the number of a refusal, 0 for none
-abbrev pub admissionNumber : admission.Admission → ℕ
-admissionNumber admits.Admitted = 0
-admissionNumber (admits.Refused r) = refusalNumber r
 
 -- all that a call settles: the report, how many bytes of the room are a reply, the next state, CDI and digest, and what the lent memory then
 -- holds

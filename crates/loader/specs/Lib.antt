@@ -3,3 +3,4 @@ pub mod Answers
 pub mod Machine
 pub mod Steps
 pub mod Theorems
+pub mod Pins

@@ -3,6 +3,7 @@ use Prim.Native.Nat.{ℕ}
 use mathlib.Core.List.{List}
 use Rattle.protocol.specs.declared.Frame.{Frame}
 use Rattle.loader.specs.State.{zeros, ended}
+use Rattle.loader.specs.Answers.{refusalNumber}
 use Rattle.loader.specs.Machine.{cdiAt}
 use Rattle.loader.specs.declared.Phase.the-variants as phase
 use Rattle.loader.specs.declared.Incoming.{Incoming}
@@ -10,6 +11,13 @@ use Rattle.loader.specs.declared.State.{State}
 use Rattle.loader.specs.declared.Answer.{Answer}
 use Rattle.loader.specs.declared.Answer.the-variants.{Started}
 use Rattle.loader.specs.declared.Received.{Received}
+use Rattle.loader.specs.declared.Admission.{Admission}
+use Rattle.loader.specs.declared.Admission.the-variants.{Admitted, Refused}
+
+-- the number of a refusal, 0 for none
+abbrev pub admissionNumber : Admission → ℕ
+admissionNumber Admitted = 0
+admissionNumber (Refused r) = refusalNumber r
 
 -- an answer with neither CDI nor digest
 abbrev pub plainly : Answer → ℕ → State → Received

@@ -11,7 +11,6 @@ use Rattle.framing.specs.Header.{good, headerAt}
 use Rattle.loader.specs.State.{zeros, inRange, idle, ended}
 use Rattle.loader.specs.Answers.{refused, continues, stopped, started, reportOf}
 use Rattle.loader.specs.Machine.{gathered, refusal, refusing, step}
-use Rattle.loader.specs.declared.Phase.{Phase}
 use Rattle.loader.specs.declared.Phase.the-variants as phase
 use Rattle.loader.specs.declared.Incoming.{Incoming}
 use Rattle.loader.specs.declared.State.{State}
@@ -73,6 +72,3 @@ pub record Loader : Type 0 where
   -- in the body of a frame for another endpoint it makes no difference what the byte is: none enters state, replies or RAM
   pub passed-over : (s : State) (b b' : ℕ) (room ram uds : List ℕ) (id ep n : ℕ) → (s .incoming .got ≡ 0 → ⊥)
       → headerAt (s .incoming .header) ≡ good id ep n → (ep ≡ 2 → ⊥) → step s b room ram uds ≡ step s b' room ram uds
-  -- nothing of a session is left in the state of an end
-  pub ends : (p : Phase) (m : ℕ) → (ended p m .incoming ≡ idle) × (ended p m .config .required ≡ zeros 32) × (ended p m .config .«measured_id» ≡ zeros 32)
-      × (ended p m .config .udi ≡ zeros 8) × (ended p m .progress .uss ≡ zeros 32) × (ended p m .progress .phase ≡ p) × (ended p m .config .«ram_len» ≡ m)

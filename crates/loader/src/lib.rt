@@ -10,8 +10,9 @@ ghost use mathlib.Core.Bool.{true};
 ghost use Prim.Native.Nat.{_≤_};
 ghost use lib.ListN.{length};
 ghost use Rattle.loader.specs.State.{inRange};
-ghost use Rattle.loader.specs.Answers.{refusalNumber, stopNumber, outcome, admissionNumber};
+ghost use Rattle.loader.specs.Answers.{refusalNumber, stopNumber, outcome};
 ghost use Rattle.loader.specs.Machine.{refusal, withIncoming, processed, step};
+ghost use Rattle.loader.specs.Steps.{admissionNumber};
 
 // Where a session stands.
 pub enum Phase {

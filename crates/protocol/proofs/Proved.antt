@@ -8,14 +8,14 @@ use mathlib.Core.Bool.{Bool, true, false, _&&_}
 use mathlib.Core.List.{List, [], _∷_, _++_}
 use native.Mathlib.Omega.{arith}
 use lib.Dec.{leb}
-use lib.ListN.{length, take, replicate, length-take, length-append, length-replicate}
-use lib.Seq.{take-at, take-append-add}
+use lib.ListN.{length, take, length-take, length-append, length-replicate}
+use lib.Seq.{take-at}
 use borrow.Author.Tests.{eq-eqb, eqb-true, eqb-false, le-leb, leb-true}
-use Rattle.framing.specs.Header.{good, headerAt, headerByte, codeOf, frameId, inField}
+use Rattle.framing.specs.Header.{good, headerAt, codeOf, frameId, inField}
 use Rattle.framing.proofs.Headers.{headers, written}
 use Rattle.blake2s.specs.Rfc7693.{word}
 use Rattle.protocol.specs.Commands.{loadIn, blocksFor, placeOf, countIn, isLast}
-use Rattle.protocol.specs.Replies.{replyHeader, replyWith, filled, sent, nameReply, udiReply, loadReply, blockReply, digestReply}
+use Rattle.protocol.specs.Replies.{replyHeader, replyWith, filled, nameReply, udiReply, loadReply, blockReply, digestReply}
 use Rattle.protocol.specs.Theorems.{Protocol, Framed, loadWith}
 
 fields : (h command flag : ℕ) (size uss rest : List ℕ) → length size ≡ 4 → length uss ≡ 32
@@ -69,23 +69,9 @@ unfolding nameReply udiReply loadReply blockReply digestReply
 reply-lengths h udi digest g =
     ((omega arith, refl), framed h 32 (0x09 ∷ 0 ∷ udi) (omega arith), (omega arith, refl), (omega arith, refl), framed h 128 (0x07 ∷ 0 ∷ digest) (omega arith))
 
--- the first n + k bytes of p, which has n, and of what follows
-front : (p z : List ℕ) (n k : ℕ) → length p ≡ n → take (n + k) (p ++ z) ≡ p ++ take k z
-front p z n k e = rw (← e) (take-append-add p z k)
-
-udi-bytes : (u : List ℕ) → length u ≡ 8 → sent (udiReply 0x30 u) ≡ 0x32 ∷ 0x09 ∷ 0 ∷ u ++ replicate 22 0
-unfolding udiReply replyHeader headerByte
-udi-bytes u l = rw l (ap (λ (x : List ℕ). 0x32 ∷ 0x09 ∷ 0 ∷ x) (front u (replicate 118 0) 8 22 l))
-
-digest-bytes : (d : List ℕ) → length d ≡ 32 → sent (digestReply 0x73 d) ≡ 0x73 ∷ 0x07 ∷ 0 ∷ d ++ replicate 94 0
-unfolding digestReply replyHeader headerByte
-digest-bytes d l = rw l (ap (λ (x : List ℕ). 0x73 ∷ 0x07 ∷ 0 ∷ x) (front d (replicate 94 0) 32 94 l))
-
 pub protocol : Protocol
-unfolding nameReply loadReply blockReply replyHeader headerByte
 protocol = record {
   load = fields;
-  flags = λ n uss. (refl, refl, refl);
   used = λ l. (eqb-true (l .flag) 1, eq-eqb (l .flag) 1);
   sizes = λ m l. (good-size m (l .size), λ h. simp (le-leb 1 (l .size) (h .0), le-leb (l .size) m (h .1)));
   blocks = (refl, refl, refl, refl, refl, refl);
@@ -93,10 +79,4 @@ protocol = record {
   last = last-block;
   header = of-length;
   lengths = reply-lengths;
-  name = refl;
-  udi = udi-bytes;
-  taken = refl;
-  not-taken = refl;
-  block = refl;
-  digest = digest-bytes;
 }

@@ -1,7 +1,7 @@
 -- A refusal is the number that admit gives; otherwise the call has what process asks for.
 use Rattle.loader.proofs.Steps.{refused-as, admitted-as, admitted}
 use Rattle.loader.specs.declared.Admission.{Admission}
-use Rattle.loader.specs.Answers.{admissionNumber}
+use Rattle.loader.specs.Steps.{admissionNumber}
 use lib.ListN.{length}
 use mathlib.Core.Path.{sym, ap, _∙_}
 use borrow.Author.Needs.{needs}

@@ -1,0 +1,56 @@
+-- What no theorem about sessions can fix, since a head and a reading of the same bytes would share the mistake: small facts about the
+-- definitions, beside document 01, as one list. The proof is `pins` in proofs/Pinned.antt.
+use Prim.Native.Nat.{ℕ, _-_}
+use mathlib.Core.Path.{_≡_}
+use mathlib.Core.Bool.{true, false}
+use mathlib.Core.List.{List, [], _∷_, _++_}
+use lib.ListN.{length, replicate}
+use Rattle.protocol.specs.Commands.{loadIn, usesUss}
+use Rattle.protocol.specs.Replies.{sent, nameReply, udiReply, loadReply, blockReply, digestReply}
+use Rattle.record.specs.Record.{recordAt}
+use Rattle.record.specs.declared.ResetType.{ResetType}
+use Rattle.record.specs.declared.ResetType.the-variants.{Flash0, Flash1, Flash0Ver, Flash1Ver, Client, ClientVer, Unknown}
+use Rattle.loader.specs.State.{zeros, idle, ended}
+use Rattle.loader.specs.Theorems.{Call}
+use Rattle.loader.specs.declared.Phase.{Phase}
+use Rattle.loader.specs.declared.State.{State}
+
+-- xs at the front of n bytes, the rest zeros
+abbrev pub front : ℕ → List ℕ → List ℕ
+front n xs = xs ++ replicate (n - length xs) 0
+
+-- a load of one byte with a flag
+abbrev pub loadWith : ℕ → List ℕ
+loadWith flag = front 129 (0x13 ∷ 0x03 ∷ 1 ∷ 0 ∷ 0 ∷ 0 ∷ flag ∷ [])
+
+-- the type of a record whose first four bytes are these
+abbrev pub typeOf : ℕ → ℕ → ℕ → ℕ → ResetType
+typeOf a b c d = recordAt (front 256 (a ∷ b ∷ c ∷ d ∷ [])) .«reset_type»
+
+-- a record with these bytes for its mask
+abbrev pub masked : ℕ → ℕ → ℕ → ℕ → List ℕ
+masked a b c d = front 256 (4 ∷ 0 ∷ 0 ∷ 0 ∷ a ∷ b ∷ c ∷ d ∷ [])
+
+pub record Pins : Type 0 where
+  -- flags 0, 1 and 2, in byte 6: flag 1 means that the user secret is used, any other that there is none
+  pub flags : (usesUss (loadIn (loadWith 0)) ≡ false) × (usesUss (loadIn (loadWith 1)) ≡ true) × (usesUss (loadIn (loadWith 2)) ≡ false)
+  -- types 0 to 6, and 0x01000004 and 0x00000104, of which the first byte is 4
+  pub types : (typeOf 0 0 0 0 ≡ Flash0) × (typeOf 1 0 0 0 ≡ Flash1) × (typeOf 2 0 0 0 ≡ Flash0Ver) × (typeOf 3 0 0 0 ≡ Flash1Ver)
+      × (typeOf 4 0 0 0 ≡ Client) × (typeOf 5 0 0 0 ≡ ClientVer) × (typeOf 6 0 0 0 ≡ Unknown) × (typeOf 4 0 0 1 ≡ Unknown) × (typeOf 4 1 0 0 ≡ Unknown)
+  -- masks 1, 0xFFFFFFFE and 0x00000100: bit 0 is RESET_SEED, and the other 31 are ignored
+  pub masks : (recordAt (masked 1 0 0 0) .«reset_seed» ≡ true) × (recordAt (masked 254 255 255 255) .«reset_seed» ≡ false)
+      × (recordAt (masked 0 1 0 0) .«reset_seed» ≡ false)
+  -- each reply as bytes: the command's frame ID, endpoint 2, bit 2 zero
+  pub name : sent (nameReply 0x10)
+      ≡ 0x12 ∷ 0x02 ∷ 0x74 ∷ 0x6b ∷ 0x31 ∷ 0x20 ∷ 0x6d ∷ 0x6b ∷ 0x64 ∷ 0x66 ∷ 0x01 ∷ 0 ∷ 0 ∷ 0 ∷ 0 ∷ 0 ∷ 0
+      ∷ 0 ∷ 0 ∷ 0 ∷ 0 ∷ 0 ∷ 0 ∷ 0 ∷ 0 ∷ 0 ∷ 0 ∷ 0 ∷ 0 ∷ 0 ∷ 0 ∷ 0 ∷ 0 ∷ []
+  pub udi : (u : List ℕ) → length u ≡ 8 → sent (udiReply 0x30 u) ≡ 0x32 ∷ 0x09 ∷ 0 ∷ u ++ replicate 22 0
+  pub taken : sent (loadReply 0x53 true) ≡ 0x51 ∷ 0x04 ∷ 0 ∷ 0 ∷ 0 ∷ []
+  pub not-taken : sent (loadReply 0x53 false) ≡ 0x51 ∷ 0x04 ∷ 1 ∷ 0 ∷ 0 ∷ []
+  pub block : sent (blockReply 0x73) ≡ 0x71 ∷ 0x06 ∷ 0 ∷ 0 ∷ 0 ∷ []
+  pub digest : (d : List ℕ) → length d ≡ 32 → sent (digestReply 0x73 d) ≡ 0x73 ∷ 0x07 ∷ 0 ∷ d ++ replicate 94 0
+  -- state and words after each stop and each start are `stops` and `starts` of a call
+  pub calls : (s : State) (b : ℕ) (room ram uds : List ℕ) → Call s b room ram uds
+  -- and nothing of a session is left in that state
+  pub ends : (p : Phase) (m : ℕ) → (ended p m .incoming ≡ idle) × (ended p m .config .required ≡ zeros 32) × (ended p m .config .«measured_id» ≡ zeros 32)
+      × (ended p m .config .udi ≡ zeros 8) × (ended p m .progress .uss ≡ zeros 32) × (ended p m .progress .phase ≡ p) × (ended p m .config .«ram_len» ≡ m)
