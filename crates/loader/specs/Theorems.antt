@@ -9,7 +9,7 @@ use lib.ListN.{length, drop}
 use lib.Seq.{paste}
 use Rattle.framing.specs.Header.{good, headerAt}
 use Rattle.loader.specs.State.{zeros, inRange, idle, ended}
-use Rattle.loader.specs.Answers.{refused, continues, stopped, started, reportOf}
+use Rattle.loader.specs.Answers.{refused, continues, stopped, started, reportOf, Outcome}
 use Rattle.loader.specs.Machine.{gathered, refusal, refusing, step}
 use Rattle.loader.specs.declared.Phase.the-variants as phase
 use Rattle.loader.specs.declared.Incoming.{Incoming}
@@ -29,41 +29,46 @@ gatheredOn (b ∷ bs) Bad i = record { step = Bad; incoming = i }
 abbrev pub gatheredAll : Incoming → List ℕ → Gathered
 gatheredAll i bs = gatheredOn bs More i
 
--- a call on a state in any range, with any byte and anything lent
+-- a call on any state, in range or not, with any byte and anything lent
 module _ (s : State) (b : ℕ) (room ram uds : List ℕ) where
   -- the number that the call is refused with, 0 for none
   abbrev pub number : ℕ
   number = refusal s (length room) (length ram) (length uds)
 
+  -- what the call leads to
+  abbrev pub after : Outcome
+  after = step s b room ram uds
+
   pub record Call : Type 0 where
     -- a state in range stays in range
-    pub stays : inRange s ≡ true → inRange (step s b room ram uds .state) ≡ true
-    -- a call answers the number of a refusal exactly when that is the number of its state and what is lent, and then it returns what it was given
-    pub refuses : (k : ℕ) → (step s b room ram uds .report ≡ refused k) ↔ ((k ≡ number) × (k ≡ 0 → ⊥))
-    pub kept : (k : ℕ) → step s b room ram uds .report ≡ refused k → step s b room ram uds ≡ refusing k s room ram uds
+    pub stays : inRange s ≡ true → inRange (after .state) ≡ true
+    -- a call answers the number of a refusal exactly when that is the number of its state and of what is lent; it then returns what it was
+    -- given
+    pub refuses : (k : ℕ) → (after .report ≡ refused k) ↔ ((k ≡ number) × (k ≡ 0 → ⊥))
+    pub kept : (k : ℕ) → after .report ≡ refused k → after ≡ refusing k s room ram uds
     -- a reply has at most 129 bytes, and beyond it the room is as it was
-    pub fits : step s b room ram uds .reply ≤ 129
-    pub beyond : drop (step s b room ram uds .reply) (step s b room ram uds .room) ≡ drop (step s b room ram uds .reply) room
+    pub fits : after .reply ≤ 129
+    pub beyond : drop (after .reply) (after .room) ≡ drop (after .reply) room
     -- while the session goes on, what begin fixed and the UDS stay, and neither CDI nor digest is given
-    pub goes-on : step s b room ram uds .report ≡ continues
-        → (step s b room ram uds .state .config ≡ s .config) × (step s b room ram uds .uds ≡ uds)
-        × (step s b room ram uds .cdi ≡ zeros 32) × (step s b room ram uds .digest ≡ zeros 32)
+    pub goes-on : after .report ≡ continues
+        → (after .state .config ≡ s .config) × (after .uds ≡ uds)
+        × (after .cdi ≡ zeros 32) × (after .digest ≡ zeros 32)
     -- after a stop the state is the one of an end and the UDS stays; only 25 has a reply, and only it comes after RAM was written
-    pub stops : (k : ℕ) → step s b room ram uds .report ≡ stopped k
-        → (step s b room ram uds .state ≡ ended phase.Stopped (s .config .«ram_len»)) × (step s b room ram uds .uds ≡ uds)
-        × (step s b room ram uds .cdi ≡ zeros 32) × (step s b room ram uds .digest ≡ zeros 32)
-        × (step s b room ram uds .reply ≡ cond (eqb k 25) 129 0)
-        × ((k ≡ 25 → ⊥) → (step s b room ram uds .room ≡ room) × (step s b room ram uds .ram ≡ ram))
+    pub stops : (k : ℕ) → after .report ≡ stopped k
+        → (after .state ≡ ended phase.Stopped (s .config .«ram_len»)) × (after .uds ≡ uds)
+        × (after .cdi ≡ zeros 32) × (after .digest ≡ zeros 32)
+        × (after .reply ≡ cond (eqb k 25) 129 0)
+        × ((k ≡ 25 → ⊥) → (after .room ≡ room) × (after .ram ≡ ram))
     -- after a start the state is the one of an end, and each word of the UDS is zero
-    pub starts : (address size : ℕ) → step s b room ram uds .report ≡ started address size
-        → (address ≡ 0x40000000) × (size ≡ s .progress .size) × (step s b room ram uds .state ≡ ended phase.Started (s .config .«ram_len»))
-        × (step s b room ram uds .uds ≡ zeros 8) × (step s b room ram uds .reply ≡ 129)
+    pub starts : (address size : ℕ) → after .report ≡ started address size
+        → (address ≡ 0x40000000) × (size ≡ s .progress .size) × (after .state ≡ ended phase.Started (s .config .«ram_len»))
+        × (after .uds ≡ zeros 8) × (after .reply ≡ 129)
 
 pub record Loader : Type 0 where
   -- the reported number and values settle the answer
   pub answers : (x y : Answer) → reportOf x ≡ reportOf y → x ≡ y
   pub call : (s : State) (b : ℕ) (room ram uds : List ℕ) → Call s b room ram uds
-  -- a good frame processed from its header to its last byte: one for the firmware is whole, with its body at the front of the gathered bytes; one
+  -- a good frame gathered from its header to its last byte: one for the firmware is whole, with its body at the front of the gathered bytes; one
   -- for another endpoint leaves nothing
   pub frame : (i : Incoming) (h id ep n : ℕ) (body : List ℕ) → i .got ≡ 0 → length (i .body) ≡ 128 → headerAt h ≡ good id ep n → length body ≡ n
       → gatheredAll i (h ∷ body)
