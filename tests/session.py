@@ -8,6 +8,9 @@ import hashlib
 import sys
 from copy import deepcopy
 from dataclasses import dataclass, field
+from itertools import chain
+
+import stored
 
 # What every scenario has in common.
 RAM = 300
@@ -485,39 +488,5 @@ def between_bytes():
     yield from s.finish()
 
 
-def expected():
-    return "".join(line + "\n" for lines in (loads(), digests(), stops(), refusals()) for line in lines).encode()
-
-
-def check(path):
-    with open(path, "rb") as f:
-        got = f.read()
-    want = expected()
-    if got == want:
-        return 0
-    got_lines = got.split(b"\n")
-    want_lines = want.split(b"\n")
-    for i in range(max(len(got_lines), len(want_lines))):
-        g = got_lines[i] if i < len(got_lines) else None
-        w = want_lines[i] if i < len(want_lines) else None
-        if g != w:
-            print(f"{path}:{i + 1}: got {show(g)}, expected {show(w)}", file=sys.stderr)
-    return 1
-
-
-def show(line):
-    return "nothing" if line is None else repr(line.decode("latin-1"))
-
-
-def main(args):
-    if not args:
-        sys.stdout.buffer.write(expected())
-        return 0
-    if len(args) == 2 and args[0] == "--check":
-        return check(args[1])
-    print(__doc__, file=sys.stderr)
-    return 2
-
-
 if __name__ == "__main__":
-    sys.exit(main(sys.argv[1:]))
+    sys.exit(stored.main(__doc__, chain(loads(), digests(), stops(), refusals())))

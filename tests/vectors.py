@@ -6,6 +6,9 @@
 """
 import hashlib
 import sys
+from itertools import chain
+
+import stored
 
 # RFC 7693, appendix B and appendix E; and of the known answers that BLAKE2 is published with, those of the empty message.
 ABC = "508c5e8c327c14e2e1a72ba34eeb452f37458b209ed63a294d999b4c86675982"
@@ -140,39 +143,5 @@ def limits():
     yield line
 
 
-def expected():
-    return "".join(line + "\n" for lines in (headers(), known(), limits()) for line in lines).encode()
-
-
-def check(path):
-    with open(path, "rb") as f:
-        got = f.read()
-    want = expected()
-    if got == want:
-        return 0
-    got_lines = got.split(b"\n")
-    want_lines = want.split(b"\n")
-    for i in range(max(len(got_lines), len(want_lines))):
-        g = got_lines[i] if i < len(got_lines) else None
-        w = want_lines[i] if i < len(want_lines) else None
-        if g != w:
-            print(f"{path}:{i + 1}: got {show(g)}, expected {show(w)}", file=sys.stderr)
-    return 1
-
-
-def show(line):
-    return "nothing" if line is None else repr(line.decode("latin-1"))
-
-
-def main(args):
-    if not args:
-        sys.stdout.buffer.write(expected())
-        return 0
-    if len(args) == 2 and args[0] == "--check":
-        return check(args[1])
-    print(__doc__, file=sys.stderr)
-    return 2
-
-
 if __name__ == "__main__":
-    sys.exit(main(sys.argv[1:]))
+    sys.exit(stored.main(__doc__, chain(headers(), known(), limits())))

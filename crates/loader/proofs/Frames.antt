@@ -11,7 +11,7 @@ use lib.Seq.{drop-cons, paste, paste-zero, paste-suc}
 use borrow.Author.Tests.{ne-eqb, lt-ltb, le-ltb}
 use Rattle.framing.specs.Header.{good, headerAt}
 use Rattle.loader.specs.State.{bodyLen, idle}
-use Rattle.loader.specs.Machine.{kept, gathered, processed, step}
+use Rattle.loader.specs.Machine.{withByte, gathered, processed, step}
 use Rattle.loader.specs.Theorems.{gatheredOn, gatheredAll}
 use Rattle.loader.proofs.Ranges.{body-small, length-some}
 use Rattle.loader.specs.declared.Incoming.{Incoming}
@@ -32,7 +32,7 @@ module _ (i : Incoming) (h id ep n : ℕ) (body : List ℕ) (idles : i .got ≡ 
   abbrev pub partly : ℕ → Incoming
   partly k = record { header = h; got = k + 1; body = cond (eqb ep 2) (paste (i .body) 0 body k) (i .body) }
 
-  byte-in : (k : ℕ) → k < n → kept (partly k) ep (getD body k 0) ≡ partly (k + 1)
+  byte-in : (k : ℕ) → k < n → withByte (partly k) ep (getD body k 0) ≡ partly (k + 1)
   byte-in k l = go (eqb ep 2)
     where
       go : (t : Bool)

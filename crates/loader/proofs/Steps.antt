@@ -13,10 +13,10 @@ use Rattle.protocol.specs.Replies.{sent, loadReply, digestReply}
 use Rattle.protocol.specs.declared.Frame.{Frame}
 use Rattle.protocol.specs.declared.Load.{Load}
 use Rattle.protocol.specs.declared.Reply.{Reply}
-use Rattle.loader.specs.State.{zeros, bodyLen, inRange, live, ended}
+use Rattle.loader.specs.State.{bodyLen, inRange, live, ended}
 use Rattle.loader.specs.Answers.{refusalNumber, outcome}
 use Rattle.loader.specs.Machine.{putIn, replying, loadOf, takes, loaded, loadAnswer, afterLoad, allowed, starting, finishedWith, actionIn, performed, acted, refusal, withIncoming, gathered, afterByte, processed, step}
-use Rattle.loader.specs.Steps.{plainly, frameOf, startOf}
+use Rattle.loader.specs.Steps.{plainly, frameOf}
 use Rattle.loader.specs.declared.Phase.the-variants as phase
 use Rattle.loader.specs.declared.Refusal.{Refusal}
 use Rattle.loader.specs.declared.Refusal.the-variants.{StateRange, Ended, ReplyRoom, RamLength, SecretLength}
@@ -61,9 +61,10 @@ module _ (s : State) (f : Frame) (l : Load) (g : Bool) (r : Reply)
 -- after the last block
 module _ (s : State) (d room ram uds : List ℕ) (x : Received) (room' uds' : List ℕ)
     (er : room' ≡ putIn room (sent (digestReply (s .incoming .header) d))) where
-  pub ends-in-start : allowed (s .config) d ≡ true → x ≡ startOf s d uds → uds' ≡ zeros 8 → outcome x room' ram uds' ≡ finishedWith d s room ram uds
-  unfolding finishedWith starting
-  ends-in-start ea ex eu = rw (ea, ex, eu, er)
+  pub ends-in-start : allowed (s .config) d ≡ true → ((r m : List ℕ) → outcome x r m uds' ≡ starting d s r m uds)
+      → outcome x room' ram uds' ≡ finishedWith d s room ram uds
+  unfolding finishedWith
+  ends-in-start ea ex = rw (ea, ← er) (ex room' ram)
 
   pub ends-in-stop : allowed (s .config) d ≡ false → x ≡ plainly (Stopped Digest) 129 (ended phase.Stopped (s .config .«ram_len»)) → uds' ≡ uds
       → outcome x room' ram uds' ≡ finishedWith d s room ram uds

@@ -8,7 +8,7 @@ use lib.Seq.{paste}
 use Rattle.framing.specs.Header.{Reading, good, stop, headerAt}
 use Rattle.blake2s.specs.Rfc7693.{blake2s, bytes}
 use Rattle.cdi.specs.Cdi.{cdiOf}
-use Rattle.protocol.specs.Commands.{commandIn, loadIn, goodLoad, usesUss, carriedBy, placeOf, countIn, isLast}
+use Rattle.protocol.specs.Commands.{firmware, commandIn, loadIn, goodLoad, usesUss, carriedBy, placeOf, countIn, isLast}
 use Rattle.protocol.specs.Replies.{sent, nameReply, udiReply, loadReply, blockReply, digestReply}
 use Rattle.protocol.specs.declared.Load.{Load}
 use Rattle.protocol.specs.declared.Reply.{Reply}
@@ -33,17 +33,18 @@ abbrev pub opened : Reading → Incoming → ℕ → Gathered
 opened (good id ep n) i b = record { step = More; incoming = record { header = b; got = 1; body = i .body } }
 opened (stop k) i b = record { step = Bad; incoming = i }
 
--- a byte of a body: only a frame for the firmware, endpoint 2, is kept
-abbrev pub kept : Incoming → ℕ → ℕ → Incoming
-kept i ep b = record { header = i .header; got = i .got + 1; body = cond (eqb ep 2) (set (i .body) (i .got - 1) b) (i .body) }
+-- with a byte of its body: only that of a frame for the firmware is kept
+abbrev pub withByte : Incoming → ℕ → ℕ → Incoming
+withByte i ep b = record { header = i .header; got = i .got + 1; body = cond (eqb ep firmware) (set (i .body) (i .got - 1) b) (i .body) }
 
 -- a frame is whole with the last byte of its body; one for another endpoint is passed over
 abbrev pub inBody : Incoming → ℕ → ℕ → ℕ → Gathered
 inBody i ep n b =
-    cond (ltb (i .got) n) (record { step = More; incoming = kept i ep b })
-    (cond (eqb ep 2) (record { step = Whole; incoming = kept i ep b })
+    cond (ltb (i .got) n) (record { step = More; incoming = withByte i ep b })
+    (cond (eqb ep firmware) (record { step = Whole; incoming = withByte i ep b })
     (record { step = More; incoming = idle }))
 
+-- no state in range has a bad header here
 abbrev pub continued : Reading → Incoming → ℕ → Gathered
 continued (good id ep n) i b = inBody i ep n b
 continued (stop k) i b = record { step = Bad; incoming = i }

@@ -6,7 +6,7 @@ use mathlib.Core.Bool.{true, false}
 use mathlib.Core.List.{List, [], _∷_, _++_}
 use lib.ListN.{length, replicate}
 use Rattle.protocol.specs.Commands.{loadIn, usesUss}
-use Rattle.protocol.specs.Replies.{sent, nameReply, udiReply, loadReply, blockReply, digestReply}
+use Rattle.protocol.specs.Replies.{filled, sent, nameReply, udiReply, loadReply, blockReply, digestReply}
 use Rattle.record.specs.Record.{recordAt}
 use Rattle.record.specs.declared.ResetType.{ResetType}
 use Rattle.record.specs.declared.ResetType.the-variants.{Flash0, Flash1, Flash0Ver, Flash1Ver, Client, ClientVer, Unknown}
@@ -15,25 +15,21 @@ use Rattle.loader.specs.Theorems.{Call}
 use Rattle.loader.specs.declared.Phase.{Phase}
 use Rattle.loader.specs.declared.State.{State}
 
--- xs at the front of n bytes, the rest zeros
-abbrev pub front : ℕ → List ℕ → List ℕ
-front n xs = xs ++ replicate (n - length xs) 0
-
--- a load of one byte with a flag
-abbrev pub loadWith : ℕ → List ℕ
-loadWith flag = front 129 (0x13 ∷ 0x03 ∷ 1 ∷ 0 ∷ 0 ∷ 0 ∷ flag ∷ [])
+-- the frame of a load of one byte, with a flag
+abbrev pub loadFrame : ℕ → List ℕ
+loadFrame flag = filled 129 (0x13 ∷ 0x03 ∷ 1 ∷ 0 ∷ 0 ∷ 0 ∷ flag ∷ [])
 
 -- the type of a record whose first four bytes are these
 abbrev pub typeOf : ℕ → ℕ → ℕ → ℕ → ResetType
-typeOf a b c d = recordAt (front 256 (a ∷ b ∷ c ∷ d ∷ [])) .«reset_type»
+typeOf a b c d = recordAt (filled 256 (a ∷ b ∷ c ∷ d ∷ [])) .«reset_type»
 
 -- a record with these bytes for its mask
 abbrev pub masked : ℕ → ℕ → ℕ → ℕ → List ℕ
-masked a b c d = front 256 (4 ∷ 0 ∷ 0 ∷ 0 ∷ a ∷ b ∷ c ∷ d ∷ [])
+masked a b c d = filled 256 (4 ∷ 0 ∷ 0 ∷ 0 ∷ a ∷ b ∷ c ∷ d ∷ [])
 
 pub record Pins : Type 0 where
   -- flags 0, 1 and 2, in byte 6: flag 1 means that the user secret is used, any other that there is none
-  pub flags : (usesUss (loadIn (loadWith 0)) ≡ false) × (usesUss (loadIn (loadWith 1)) ≡ true) × (usesUss (loadIn (loadWith 2)) ≡ false)
+  pub flags : (usesUss (loadIn (loadFrame 0)) ≡ false) × (usesUss (loadIn (loadFrame 1)) ≡ true) × (usesUss (loadIn (loadFrame 2)) ≡ false)
   -- types 0 to 6, and 0x01000004 and 0x00000104, of which the first byte is 4
   pub types : (typeOf 0 0 0 0 ≡ Flash0) × (typeOf 1 0 0 0 ≡ Flash1) × (typeOf 2 0 0 0 ≡ Flash0Ver) × (typeOf 3 0 0 0 ≡ Flash1Ver)
       × (typeOf 4 0 0 0 ≡ Client) × (typeOf 5 0 0 0 ≡ ClientVer) × (typeOf 6 0 0 0 ≡ Unknown) × (typeOf 4 0 0 1 ≡ Unknown) × (typeOf 4 1 0 0 ≡ Unknown)

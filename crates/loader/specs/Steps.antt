@@ -1,15 +1,11 @@
 -- What the private functions of src/ give back, in the library's own types. A reader of the promises of `receive` does not need this file.
 use Prim.Native.Nat.{ℕ}
-use mathlib.Core.List.{List}
 use Rattle.protocol.specs.declared.Frame.{Frame}
-use Rattle.loader.specs.State.{zeros, ended}
+use Rattle.loader.specs.State.{zeros}
 use Rattle.loader.specs.Answers.{refusalNumber}
-use Rattle.loader.specs.Machine.{cdiAt}
-use Rattle.loader.specs.declared.Phase.the-variants as phase
 use Rattle.loader.specs.declared.Incoming.{Incoming}
 use Rattle.loader.specs.declared.State.{State}
 use Rattle.loader.specs.declared.Answer.{Answer}
-use Rattle.loader.specs.declared.Answer.the-variants.{Started}
 use Rattle.loader.specs.declared.Received.{Received}
 use Rattle.loader.specs.declared.Admission.{Admission}
 use Rattle.loader.specs.declared.Admission.the-variants.{Admitted, Refused}
@@ -25,14 +21,3 @@ plainly a n s = record { answer = a; reply = n; state = s; cdi = zeros 32; diges
 
 abbrev pub frameOf : Incoming → Frame
 frameOf i = record { header = i .header; body = i .body }
-
--- a start of a program with digest d
-abbrev pub startOf : State → List ℕ → List ℕ → Received
-startOf s d uds =
-    record {
-      answer = Started 0x40000000 (s .progress .size);
-      reply = 129;
-      state = ended phase.Started (s .config .«ram_len»);
-      cdi = cdiAt s d uds;
-      digest = d;
-    }

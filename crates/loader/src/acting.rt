@@ -1,13 +1,14 @@
 // A whole frame acted on: document 01, "Commands and replies".
 ghost use mathlib.Core.Path.{_≡_};
 ghost use mathlib.Core.Bool.{true};
-ghost use Prim.Native.Nat.{_+_, _<_, _≤_};
+ghost use Prim.Native.Nat.{ℕ, _+_, _<_, _≤_};
+ghost use mathlib.Core.List.{List};
 ghost use lib.ListN.{length};
 ghost use Rattle.protocol.specs.Replies.{sent};
-ghost use Rattle.loader.specs.State.{zeros, progressOk, loadingOk, ended};
+ghost use Rattle.loader.specs.State.{progressOk, loadingOk, ended};
 ghost use Rattle.loader.specs.Answers.{outcome};
-ghost use Rattle.loader.specs.Machine.{between, actionIn, actionWaiting, actionLoading, loaded, afterLoad, loadAnswer, nextBlock, allowed, putIn, finished, actedBlock, acted};
-ghost use Rattle.loader.specs.Steps.{plainly, frameOf, startOf};
+ghost use Rattle.loader.specs.Machine.{between, actionIn, actionWaiting, actionLoading, loaded, afterLoad, loadAnswer, nextBlock, allowed, putIn, starting, finished, actedBlock, acted};
+ghost use Rattle.loader.specs.Steps.{plainly, frameOf};
 use super::Answer;
 use super::Config;
 use super::Incoming;
@@ -190,7 +191,7 @@ fn allowed(c: Config, digest: [u8; 32]) -> bool
 // A start: the device secret is read, and then cleared.
 fn start(s: State, digest: [u8; 32], uds: &mut [u32]) -> Received
     requires { ⌜ length (now uds) ≡ 8 ⌝ }
-    ensures { λ r. ⌜ (r ≡ startOf s digest (now (uds .entry))) × (now (uds .exit) ≡ zeros 8) ⌝ }
+    ensures { λ r. ⌜ ((room ram : List ℕ) → outcome r room ram (now (uds .exit)) ≡ starting digest s room ram (now (uds .entry))) ⌝ }
 {
     let c = s.config;
     let p = s.progress;

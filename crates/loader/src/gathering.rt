@@ -4,7 +4,7 @@ ghost use mathlib.Core.Bool.{true};
 ghost use Prim.Native.Nat.{_≤_};
 ghost use Rattle.framing.specs.Header.{headerAt};
 ghost use Rattle.loader.specs.State.{incomingOk};
-ghost use Rattle.loader.specs.Machine.{opened, kept, inBody, gathered};
+ghost use Rattle.loader.specs.Machine.{opened, withByte, inBody, gathered};
 use super::Incoming;
 use framing::Header;
 
@@ -51,7 +51,7 @@ fn open(i: Incoming, b: u8) -> Gathered
 // A byte of a body: it is kept where the frame is for the firmware.
 fn keep(i: Incoming, endpoint: u8, b: u8) -> Incoming
     requires { ⌜ (1 ≤ i .got) × (i .got ≤ 128) ⌝ }
-    ensures { λ r. ⌜ r ≡ kept i endpoint b ⌝ }
+    ensures { λ r. ⌜ r ≡ withByte i endpoint b ⌝ }
 {
     let mut next = i;
     let at = (i.got - 1) as usize;

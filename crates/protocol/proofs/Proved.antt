@@ -58,9 +58,9 @@ of-length h n (inl e) = reply-header h n (rw e (omega arith))
 of-length h n (inr (inl e)) = reply-header h n (rw e (omega arith))
 of-length h n (inr (inr e)) = reply-header h n (rw e (omega arith))
 
-framed : (h n : ℕ) (bytes : List ℕ) → n ≤ 128 → Framed (replyWith h n (filled bytes))
+framed : (h n : ℕ) (bytes : List ℕ) → n ≤ 128 → Framed (replyWith h n (filled 128 bytes))
 framed h n bytes l =
-    let e : length (take n (filled bytes)) ≡ n = rw (length-take, length-append, length-replicate) (omega arith) in
+    let e : length (take n (filled 128 bytes)) ≡ n = rw (length-take, length-append, length-replicate) (omega arith) in
     (l, ap suc e ∙ sym (add-one n))
 
 reply-lengths : (h : ℕ) (udi digest : List ℕ) (g : Bool)

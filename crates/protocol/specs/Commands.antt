@@ -12,6 +12,10 @@ use Rattle.protocol.specs.declared.Load.{Load}
 abbrev pub bytesOf : Frame → List ℕ
 bytesOf f = f .header ∷ f .body
 
+-- the endpoint of the firmware
+abbrev pub firmware : ℕ
+firmware = 2
+
 abbrev pub commandIn : List ℕ → ℕ
 commandIn f = getD f 1 0
 

@@ -5,6 +5,7 @@ use mathlib.Core.Bool.{Bool, cond}
 use mathlib.Core.List.{List, [], _∷_, _++_}
 use lib.ListN.{length, take, replicate}
 use Rattle.framing.specs.Header.{frameId, inField, Writing, byte, refused, headerByte}
+use Rattle.protocol.specs.Commands.{firmware}
 use Rattle.protocol.specs.declared.Reply.{Reply}
 
 -- the byte that a header is written as; the writer refuses none of a reply's
@@ -14,14 +15,15 @@ written (refused k) = 0
 
 -- the header of the reply to a command with header h, for a body of n bytes
 unfoldable pub replyHeader : ℕ → ℕ → ℕ
-replyHeader h n = written (headerByte (inField frameId h) 2 n)
+replyHeader h n = written (headerByte (inField frameId h) firmware n)
 
+-- a reply to it: its body is the first n of 128 bytes
 abbrev pub replyWith : ℕ → ℕ → List ℕ → Reply
 replyWith h n body = record { header = replyHeader h n; len = n; body = body }
 
--- zeros up to 128 bytes; n of them are the reply's body
-abbrev pub filled : List ℕ → List ℕ
-filled bytes = bytes ++ replicate (128 - length bytes) 0
+-- bytes filled up with zeros to n
+abbrev pub filled : ℕ → List ℕ → List ℕ
+filled n bytes = bytes ++ replicate (n - length bytes) 0
 
 -- the bytes of a reply as they are sent
 abbrev pub sent : Reply → List ℕ
@@ -30,20 +32,20 @@ sent r = r .header ∷ take (r .len) (r .body)
 -- 0x01, name and version: "tk1 ", "mkdf", version 1 in four bytes
 unfoldable pub nameReply : ℕ → Reply
 nameReply h =
-    replyWith h 32 (filled (0x02 ∷ 0x74 ∷ 0x6b ∷ 0x31 ∷ 0x20 ∷ 0x6d ∷ 0x6b ∷ 0x64 ∷ 0x66 ∷ 1 ∷ 0 ∷ 0 ∷ 0 ∷ []))
+    replyWith h 32 (filled 128 (0x02 ∷ 0x74 ∷ 0x6b ∷ 0x31 ∷ 0x20 ∷ 0x6d ∷ 0x6b ∷ 0x64 ∷ 0x66 ∷ 1 ∷ 0 ∷ 0 ∷ 0 ∷ []))
 
 -- 0x08, UDI: status 0, the eight bytes
 unfoldable pub udiReply : ℕ → List ℕ → Reply
-udiReply h udi = replyWith h 32 (filled (0x09 ∷ 0 ∷ udi))
+udiReply h udi = replyWith h 32 (filled 128 (0x09 ∷ 0 ∷ udi))
 
 -- 0x03, load: status 0, or 1 for a load that is not taken
 unfoldable pub loadReply : ℕ → Bool → Reply
-loadReply h good = replyWith h 4 (filled (0x04 ∷ cond good 0 1 ∷ []))
+loadReply h good = replyWith h 4 (filled 128 (0x04 ∷ cond good 0 1 ∷ []))
 
 -- 0x05, block: status 0
 unfoldable pub blockReply : ℕ → Reply
-blockReply h = replyWith h 4 (filled (0x06 ∷ 0 ∷ []))
+blockReply h = replyWith h 4 (filled 128 (0x06 ∷ 0 ∷ []))
 
 -- 0x05, the last block: status 0, the 32 bytes of the digest
 unfoldable pub digestReply : ℕ → List ℕ → Reply
-digestReply h digest = replyWith h 128 (filled (0x07 ∷ 0 ∷ digest))
+digestReply h digest = replyWith h 128 (filled 128 (0x07 ∷ 0 ∷ digest))

@@ -37,5 +37,6 @@ pub record Protocol : Type 0 where
   pub last : (n k : ℕ) → 1 ≤ n → isLast n k ≡ true → placeOf k + countIn n k ≡ n
   -- a reply has the command's frame ID, endpoint 2, bits 7 and 2 zero and the length of its body
   pub header : (h n : ℕ) → (n ≡ 4) ⊎ ((n ≡ 32) ⊎ (n ≡ 128)) → headerAt (replyHeader h n) ≡ good (inField frameId h) 2 n
+  -- every reply has the length that it says
   pub lengths : (h : ℕ) (udi digest : List ℕ) (good : Bool)
       → Framed (nameReply h) × Framed (udiReply h udi) × Framed (loadReply h good) × Framed (blockReply h) × Framed (digestReply h digest)

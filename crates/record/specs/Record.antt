@@ -35,8 +35,8 @@ abbrev pub fieldOf : Field → List ℕ → List ℕ
 fieldOf f bytes = take (f .size) (drop (f .from) bytes)
 
 -- a field of four bytes as a number, lowest byte first
-abbrev pub numberOf : Field → List ℕ → ℕ
-numberOf f bytes = word (fieldOf f bytes) 0
+abbrev pub numberIn : Field → List ℕ → ℕ
+numberIn f bytes = word (fieldOf f bytes) 0
 
 -- the type that a number stands for
 abbrev pub resetType : ℕ → ResetType
@@ -55,8 +55,8 @@ resetSeed mask = eqb (mask % 2) 1
 unfoldable pub recordAt : List ℕ → Record
 recordAt bytes =
     record {
-      «reset_type» = resetType (numberOf typeField bytes);
-      «reset_seed» = resetSeed (numberOf maskField bytes);
+      «reset_type» = resetType (numberIn typeField bytes);
+      «reset_seed» = resetSeed (numberIn maskField bytes);
       required = fieldOf requiredField bytes;
       «measured_id» = fieldOf measuredIdField bytes;
     }

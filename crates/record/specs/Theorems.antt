@@ -1,5 +1,5 @@
--- What is proved about the record besides the promise: which numbers are no type, where the digests stand, and what is not read. The proof is `records` in
--- proofs/Proved.antt.
+-- What is proved about the record besides the promise: which numbers are no type, where the digests stand, and what is not read. The proof
+-- is `records` in proofs/Proved.antt.
 use Prim.Native.Nat.{ℕ, _≤_}
 use mathlib.Core.Path.{_≡_}
 use mathlib.Core.List.{List, _++_}

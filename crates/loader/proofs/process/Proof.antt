@@ -41,7 +41,10 @@ returns-2 : tie.Need-returns-2
 returns-2 c = rw (c .stop .ensures) (led (c .before .before .before) _ (c .before .enum-told2 .given .1))
 
 returns-3 : tie.Need-returns-3
-returns-3 c = c .before .before .before .before .before .before .act .ensures ∙ led (c .before .before .before .before .before .before .before .before .before .before .before .before) _ (c .before .before .before .before .before .before .before .before .before .before .enum-told3 .given .1)
+returns-3 c =
+    let f = c .before .before .before .before .before .before in
+    let t = f .before .before .before .before in
+    f .act .ensures ∙ led (t .before .before) _ (t .enum-told3 .given .1)
 
 pub process-spec : {M : Type 1} → statement M
 process-spec =

@@ -69,7 +69,10 @@ returns-3 c =
     ∙ decided y _ (c .before .before .before .before .enum-told3 .given .1)
 
 returns-4 : tie.Need-returns-4
-returns-4 c = c .before .before .before .before .before .before .act-block .ensures ∙ decided (c .before .before .before .before .before .before .before .before .before .before .before .before) _ (c .before .before .before .before .before .before .before .before .before .before .enum-told4 .given .1)
+returns-4 c =
+    let f = c .before .before .before .before .before .before in
+    let t = f .before .before .before .before in
+    f .act-block .ensures ∙ decided (t .before .before) _ (t .enum-told4 .given .1)
 
 returns-5 : tie.Need-returns-5
 returns-5 c = rw (c .stop .ensures) (decided (c .before .before .before) _ (c .before .enum-told5 .given .1))

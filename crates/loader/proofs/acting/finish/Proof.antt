@@ -38,7 +38,7 @@ returns c =
     let a = call y .args in
     let t = c .before .before .start in
     ends-in-start (a .s) (digest y) (a .room .now) (a .ram .now) (a .uds .now) (t .result) _ _ (sent-digest y)
-    (sym (c .before .before .before .before .before .allowed .ensures) ∙ c .before .before .before .before .if1 .taken) (t .ensures .0) (t .ensures .1)
+    (sym (c .before .before .before .before .before .allowed .ensures) ∙ c .before .before .before .before .if1 .taken) (t .ensures)
     ∙ measured y
 
 returns-2 : tie.Need-returns-2

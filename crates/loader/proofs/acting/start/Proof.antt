@@ -3,14 +3,19 @@ use lib.ListN.{replicate}
 use Prim.Native.Nat.{ℕ}
 use mathlib.Core.Path.{ap, _∙_}
 use borrow.Author.Needs.{needs}
+use Rattle.loader.specs.Machine.{starting}
 use Rattle.loader.proofs.acting.start.Statement.{statement}
 use Rattle.loader.proofs.acting.start.Tie as tie
 
 returns : tie.Need-returns
-returns c = (
-  rw (c .ended .ensures, c .before .before .before .before .before .derive .ensures, c .before .before .before .before .before .before .before .before .secret-bytes .ensures),
-  c .before .before .before .clear .ensures ∙ ap (λ (n : ℕ). replicate n 0) (c .before .before .before .before .before .before .before .before .before .before .before .before .before .pre),
-)
+unfolding starting
+returns c =
+    let k = c .before .before .before in
+    let d = k .before .before in
+    let b = d .before .before .before in
+    let z = b .before .before .before .before .before in
+    let e = k .clear .ensures ∙ ap (λ (n : ℕ). replicate n 0) (z .pre) in
+    λ room ram. rw (c .ended .ensures, d .derive .ensures, b .secret-bytes .ensures, e)
 
 pub start-spec : {M : Type 1} → statement M
 start-spec =
