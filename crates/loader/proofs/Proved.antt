@@ -21,9 +21,9 @@ use Rattle.loader.proofs.Frames.{frame-whole, passed-over}
 use Rattle.loader.specs.declared.Phase.the-variants as phase
 use Rattle.loader.specs.declared.State.{State}
 use Rattle.loader.specs.declared.Refusal.{Refusal}
-use Rattle.loader.specs.declared.Refusal.the-variants.{StateRange, Ended, ReplyRoom, RamLength, SecretLength}
+use Rattle.loader.specs.declared.Refusal.the-variants.{StateRange, Ended, ReplyRoom, RamLength, SecretLength, RecordLength, RamSize}
 use Rattle.loader.specs.declared.Stop.{Stop}
-use Rattle.loader.specs.declared.Stop.the-variants.{HeaderBit, Command, BodyLength, Digest}
+use Rattle.loader.specs.declared.Stop.the-variants.{UnknownType, NoFlash, HeaderBit, Command, BodyLength, Digest}
 use Rattle.loader.specs.declared.Answer.{Answer}
 use Rattle.loader.specs.declared.Answer.the-variants.{Refused, Continue, Stopped, Started}
 
@@ -34,7 +34,13 @@ apart e = absurd (omega arith)
 -- ---- the numbers settle the answer
 
 abbrev refusalOf : ℕ → Refusal
-refusalOf k = cond (eqb k 1) StateRange (cond (eqb k 2) Ended (cond (eqb k 3) ReplyRoom (cond (eqb k 4) RamLength SecretLength)))
+refusalOf k =
+    cond (eqb k 1) StateRange
+    (cond (eqb k 2) Ended
+    (cond (eqb k 3) ReplyRoom
+    (cond (eqb k 4) RamLength
+    (cond (eqb k 5) SecretLength
+    (cond (eqb k 6) RecordLength RamSize)))))
 
 refusal-back : (x : Refusal) → refusalOf (refusalNumber x) ≡ x
 refusal-back StateRange = refl
@@ -42,11 +48,20 @@ refusal-back Ended = refl
 refusal-back ReplyRoom = refl
 refusal-back RamLength = refl
 refusal-back SecretLength = refl
+refusal-back RecordLength = refl
+refusal-back RamSize = refl
 
 abbrev stopOf : ℕ → Stop
-stopOf k = cond (eqb k 22) HeaderBit (cond (eqb k 23) Command (cond (eqb k 24) BodyLength Digest))
+stopOf k =
+    cond (eqb k 20) UnknownType
+    (cond (eqb k 21) NoFlash
+    (cond (eqb k 22) HeaderBit
+    (cond (eqb k 23) Command
+    (cond (eqb k 24) BodyLength Digest))))
 
 stop-back : (x : Stop) → stopOf (stopNumber x) ≡ x
+stop-back UnknownType = refl
+stop-back NoFlash = refl
 stop-back HeaderBit = refl
 stop-back Command = refl
 stop-back BodyLength = refl

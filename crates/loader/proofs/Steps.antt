@@ -19,7 +19,7 @@ use Rattle.loader.specs.Machine.{putIn, replying, loadOf, takes, loaded,
 use Rattle.loader.specs.Steps.{plainly, frameOf}
 use Rattle.loader.specs.declared.Phase.the-variants as phase
 use Rattle.loader.specs.declared.Refusal.{Refusal}
-use Rattle.loader.specs.declared.Refusal.the-variants.{StateRange, Ended, ReplyRoom, RamLength, SecretLength}
+use Rattle.loader.specs.declared.Refusal.the-variants.{StateRange, Ended, ReplyRoom, RamLength, SecretLength, RecordLength, RamSize}
 use Rattle.loader.specs.declared.Answer.the-variants.{Refused, Continue, Stopped}
 use Rattle.loader.specs.declared.Stop.the-variants.{Digest}
 use Rattle.loader.specs.declared.State.{State}
@@ -90,6 +90,8 @@ numbered Ended = refl
 numbered ReplyRoom = refl
 numbered RamLength = refl
 numbered SecretLength = refl
+numbered RecordLength = refl
+numbered RamSize = refl
 
 pub refused-as : (s : State) (b : ℕ) (room ram uds : List ℕ) (w : Refusal) (x : Received) → x ≡ plainly (Refused w) 0 s
     → refusalNumber w ≡ refusal s (length room) (length ram) (length uds) → outcome x room ram uds ≡ step s b room ram uds

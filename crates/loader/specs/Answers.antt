@@ -2,9 +2,9 @@
 use Prim.Native.Nat.{ℕ}
 use mathlib.Core.List.{List}
 use Rattle.loader.specs.declared.Refusal.{Refusal}
-use Rattle.loader.specs.declared.Refusal.the-variants.{StateRange, Ended, ReplyRoom, RamLength, SecretLength}
+use Rattle.loader.specs.declared.Refusal.the-variants.{StateRange, Ended, ReplyRoom, RamLength, SecretLength, RecordLength, RamSize}
 use Rattle.loader.specs.declared.Stop.{Stop}
-use Rattle.loader.specs.declared.Stop.the-variants.{HeaderBit, Command, BodyLength, Digest}
+use Rattle.loader.specs.declared.Stop.the-variants.{UnknownType, NoFlash, HeaderBit, Command, BodyLength, Digest}
 use Rattle.loader.specs.declared.Answer.{Answer}
 use Rattle.loader.specs.declared.Answer.the-variants.{Refused, Continue, Stopped, Started}
 use Rattle.loader.specs.declared.State.{State}
@@ -17,8 +17,12 @@ refusalNumber Ended = 2
 refusalNumber ReplyRoom = 3
 refusalNumber RamLength = 4
 refusalNumber SecretLength = 5
+refusalNumber RecordLength = 6
+refusalNumber RamSize = 7
 
 abbrev pub stopNumber : Stop → ℕ
+stopNumber UnknownType = 20
+stopNumber NoFlash = 21
 stopNumber HeaderBit = 22
 stopNumber Command = 23
 stopNumber BodyLength = 24
@@ -27,7 +31,7 @@ stopNumber Digest = 25
 pub data Report : Type 0 where
   -- the number of the refusal
   refused : ℕ → Report
-  -- the byte is taken, and the session goes on
+  -- the record or the byte is taken, and the session goes on
   continues : Report
   -- the number of the stop
   stopped : ℕ → Report
@@ -40,7 +44,7 @@ reportOf Continue = continues
 reportOf (Stopped s) = stopped (stopNumber s)
 reportOf (Started address size) = started address size
 
--- all that a call settles: the report, how many bytes of the room are a reply, the next state, CDI and digest, and what the lent memory then
+-- all that receiving a byte settles: the report, how many bytes of the room are a reply, the next state, CDI and digest, and what the lent memory then
 -- holds
 pub record Outcome : Type 0 where
   pub report : Report

@@ -1,6 +1,7 @@
 // The boot loader of a loom head: bytes from the cable in, replies out, until a program starts or the head stops.
-// Document 01 in the terms of specs/: State (the state and its ranges), Answers (the paper's numbers), Machine (what each byte does).
+// Document 01 in the terms of specs/: State (the state and its ranges), Answers (the paper's numbers), Begin, Machine (what each byte does).
 mod acting;
+mod beginning;
 mod gathering;
 mod memory;
 mod states;
@@ -11,6 +12,7 @@ ghost use Prim.Native.Nat.{_≤_};
 ghost use lib.ListN.{length};
 ghost use Rattle.loader.specs.State.{inRange};
 ghost use Rattle.loader.specs.Answers.{refusalNumber, stopNumber, outcome};
+ghost use Rattle.loader.specs.Begin.{beginningOf, beginning};
 ghost use Rattle.loader.specs.Machine.{refusal, withIncoming, processed, step};
 ghost use Rattle.loader.specs.Steps.{admissionNumber};
 
@@ -62,7 +64,7 @@ pub struct State {
     pub progress: Progress,
 }
 
-// Why a call was refused: document 01's refusals 1 to 5.
+// Why a call was refused: document 01's refusals 1 to 7. Begin gives the last two, `receive` the others.
 pub enum Refusal {
     // A field of the state is out of its range.
     StateRange,
@@ -74,10 +76,18 @@ pub enum Refusal {
     RamLength,
     // The device secret is not eight words.
     SecretLength,
+    // The reset record has not 256 bytes.
+    RecordLength,
+    // RAM has no byte, or over 131,072.
+    RamSize,
 }
 
-// Why the head stopped: document 01's stops 22 to 25.
+// Why the head stopped: document 01's stops 20 to 25. Begin gives the first two, `receive` the others.
 pub enum Stop {
+    // The record's type is 6 or above.
+    UnknownType,
+    // The record's type is 0 to 3, and no flash is fitted.
+    NoFlash,
     // Bit 7 or bit 2 of a header is set.
     HeaderBit,
     // The command is not allowed in this phase, or unknown.
@@ -92,14 +102,20 @@ pub enum Stop {
 pub enum Answer {
     // Nothing has changed.
     Refused(Refusal),
-    // The byte is taken, and the session goes on.
+    // The record or the byte is taken, and the session goes on.
     Continue,
     Stopped(Stop),
     // The program of this size at the front of RAM is to run, from this address.
     Started { address: u32, size: u32 },
 }
 
-// What a call gives back.
+// What begin gives back.
+pub struct Begun {
+    pub answer: Answer,
+    pub state: State,
+}
+
+// What receiving a byte gives back.
 pub struct Received {
     pub answer: Answer,
     // How many bytes at the front of the reply room are a reply: 0 for none.
@@ -120,6 +136,8 @@ pub fn refusal_number(r: Refusal) -> u8
         Refusal::ReplyRoom => 3,
         Refusal::RamLength => 4,
         Refusal::SecretLength => 5,
+        Refusal::RecordLength => 6,
+        Refusal::RamSize => 7,
     }
 }
 
@@ -128,11 +146,28 @@ pub fn stop_number(s: Stop) -> u8
     ensures { λ x. ⌜ x ≡ stopNumber s ⌝ }
 {
     match s {
+        Stop::UnknownType => 20,
+        Stop::NoFlash => 21,
         Stop::HeaderBit => 22,
         Stop::Command => 23,
         Stop::BodyLength => 24,
         Stop::Digest => 25,
     }
+}
+
+// Begins a session: from the reset record, the device's identity (UDI) and the length of the RAM that will be lent at each call. After a
+// refusal or a stop every later call on the state is refused.
+pub fn begin(record: &[u8], udi: [u8; 8], ram_len: usize) -> Begun
+    ensures { λ r. ⌜ beginningOf r ≡ beginning (now («record» .entry)) udi «ram_len» ⌝ }
+{
+    if record.len() != 256 {
+        return beginning::end(Answer::Refused(Refusal::RecordLength), 1);
+    }
+    if !states::ram_ok(ram_len) {
+        return beginning::end(Answer::Refused(Refusal::RamSize), 1);
+    }
+    let bytes = beginning::record_bytes(record);
+    beginning::by_type(record::read(bytes), udi, ram_len)
 }
 
 // Whether a call is admitted.

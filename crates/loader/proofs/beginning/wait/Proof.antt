@@ -1,0 +1,10 @@
+-- By computation.
+use borrow.Author.Needs.{needs}
+use Rattle.loader.proofs.beginning.wait.Statement.{statement}
+use Rattle.loader.proofs.beginning.wait.Tie as tie
+
+returns : tie.Need-returns
+returns c = rw (c .idle .ensures)
+
+pub wait-spec : {M : Type 1} → statement M
+wait-spec = tie.close (tie.spec (λ c κs. search needs) returns)

@@ -1,0 +1,69 @@
+-- Begin: document 01, "Reset record and lent memory", refusals 6 and 7, stops 20 and 21.
+use Prim.Native.Nat.{ℕ}
+use mathlib.Core.Bool.{Bool, true, false, not, cond}
+use mathlib.Core.List.{List}
+use lib.Dec.{eqb}
+use lib.ListN.{length}
+use Rattle.record.specs.Record.{recordAt}
+use Rattle.record.specs.declared.Record.{Record}
+use Rattle.record.specs.declared.ResetType.{ResetType}
+use Rattle.record.specs.declared.ResetType.the-variants.{Flash0, Flash1, Flash0Ver, Flash1Ver, Client, ClientVer, Unknown}
+use Rattle.loader.specs.State.{zeros, ramOk, idle, ended}
+use Rattle.loader.specs.Answers.{Report, refused, continues, stopped, reportOf}
+use Rattle.loader.specs.declared.Phase.the-variants as phase
+use Rattle.loader.specs.declared.Config.{Config}
+use Rattle.loader.specs.declared.Progress.{Progress}
+use Rattle.loader.specs.declared.State.{State}
+use Rattle.loader.specs.declared.Begun.{Begun}
+
+-- all that begin settles: the report and the state that the first byte is received in
+pub record Beginning : Type 0 where
+  pub report : Report
+  pub state : State
+
+abbrev pub beginningOf : Begun → Beginning
+beginningOf b = record { report = reportOf (b .answer); state = b .state }
+
+-- no session: the state is the one of an end, for a RAM of m bytes
+abbrev pub ending : Report → ℕ → Beginning
+ending report m = record { report = report; state = ended phase.Stopped m }
+
+-- nothing of a load is there
+abbrev pub waiting : Progress
+waiting = record { phase = phase.Waiting; size = 0; block = 0; «uss_used» = false; uss = zeros 32 }
+
+-- what a session goes by
+abbrev pub configOf : Bool → Record → List ℕ → ℕ → Config
+configOf verify r udi m =
+    record {
+      «ram_len» = m;
+      verify = verify;
+      required = r .required;
+      chained = r .«reset_seed»;
+      «measured_id» = r .«measured_id»;
+      udi = udi;
+    }
+
+abbrev pub waitingWith : Config → Beginning
+waitingWith c = record { report = continues; state = record { incoming = idle; config = c; progress = waiting } }
+
+-- type 4 waits for any program, type 5 for one that has the required digest; types 0 to 3 stop with 21, since no flash is fitted, and 6 and
+-- above with 20
+abbrev pub byType : ResetType → Record → List ℕ → ℕ → Beginning
+byType Flash0 r udi m = ending (stopped 21) m
+byType Flash1 r udi m = ending (stopped 21) m
+byType Flash0Ver r udi m = ending (stopped 21) m
+byType Flash1Ver r udi m = ending (stopped 21) m
+byType Client r udi m = waitingWith (configOf false r udi m)
+byType ClientVer r udi m = waitingWith (configOf true r udi m)
+byType Unknown r udi m = ending (stopped 20) m
+
+-- the lowest refusal that applies, 0 for none, by the record's length and the RAM's
+abbrev pub beginRefusal : ℕ → ℕ → ℕ
+beginRefusal n m = cond (not (eqb n 256)) 6 (cond (not (ramOk m)) 7 0)
+
+-- a refused begin hands back one state, which depends on nothing
+unfoldable pub beginning : List ℕ → List ℕ → ℕ → Beginning
+beginning bytes udi m =
+    let k = beginRefusal (length bytes) m in
+    cond (eqb k 0) (byType (recordAt bytes .«reset_type») (recordAt bytes) udi m) (ending (refused k) 1)
