@@ -57,7 +57,7 @@ paste-part d s at k n e h =
     rw (e, l, t)
 
 -- all bytes of the eight words
-bytes-length : (h : List ℕ) → length (bytes h) ≡ 32
+pub bytes-length : (h : List ℕ) → length (bytes h) ≡ 32
 unfolding bytes
 bytes-length h = length-each 32 (λ i. getD h (i / 4) 0 / 2 ^ (8 * (i % 4)) % 2 ^ 8)
 

@@ -1,19 +1,24 @@
 -- The theorem of specs/Theorems.antt. Each claim about a call is shown for each way that a call can go (`by-step`).
 use Prim.Native.Nat.{ℕ, _+_, _≤_}
-use mathlib.Core.Bool.{true, cond}
+use mathlib.Core.Bool.{Bool, true, false, not, cond}
 use mathlib.Core.Path.{_≡_, refl, sym, ap, _∙_}
 use mathlib.Core.List.{List, []}
 use native.Mathlib.Omega.{arith}
 use lib.ListN.{length, drop}
 use lib.Seq.{drop-at}
 use lib.Dec.{eqb}
-use borrow.Author.Tests.{ne-eqb, eq-eqb, le-leb}
-use Rattle.loader.specs.State.{zeros, incomingOk, progressOk, ramOk, inRange, ended}
+use borrow.Author.Tests.{ne-eqb, eq-eqb, eqb-true, eqb-false, le-leb}
+use Rattle.loader.specs.State.{zeros, incomingOk, progressOk, ramOk, inRange, live, ended}
 use Rattle.loader.specs.Answers.{refused, continues, stopped, started, refusalNumber, stopNumber, reportOf, Outcome}
-use Rattle.loader.specs.Machine.{starting, putIn, refusing, step}
+use Rattle.loader.specs.Begin.{Beginning, ending, waitingWith, configOf, byType, beginning}
+use Rattle.loader.specs.Machine.{starting, putIn, refusal, processed, refusing, step}
 use Rattle.loader.specs.Theorems.{Loader, number}
 use Rattle.loader.proofs.Ranges.{range-facts}
+use Rattle.loader.proofs.Steps.{admitted}
 use Rattle.loader.proofs.Ways.{by-step}
+use Rattle.record.specs.Record.{recordAt}
+use Rattle.record.specs.declared.ResetType.{ResetType}
+use Rattle.record.specs.declared.ResetType.the-variants.{Flash0, Flash1, Flash0Ver, Flash1Ver, Client, ClientVer, Unknown}
 use Rattle.protocol.proofs.Proved.{protocol}
 use Rattle.protocol.specs.Replies.{sent, digestReply}
 use Rattle.protocol.specs.declared.Reply.{Reply}
@@ -124,7 +129,7 @@ module _ (s : State) (b : ℕ) (room ram uds : List ℕ) where
         more = λ i o r. in-range _ (ram-ok s r) o (range-facts s r .progress);
         halt = λ w n r. stopped-ok m (ram-ok s r);
         reply = λ q f r. in-range _ (ram-ok s r) refl (range-facts s r .progress);
-        progress = λ q f p ram1 o r. in-range _ (ram-ok s r) refl o;
+        progress = λ q f p ram1 o v r. in-range _ (ram-ok s r) refl o;
         start = λ i d ram1 r. started-ok m (ram-ok s r);
         fail = λ i d ram1 r. stopped-ok m (ram-ok s r);
       })
@@ -138,7 +143,7 @@ module _ (s : State) (b : ℕ) (room ram uds : List ℕ) where
         more = λ i o q. apart (cc);
         halt = λ w n q. apart (cc);
         reply = λ r f q. apart (cc);
-        progress = λ r f p ram1 o q. apart (cc);
+        progress = λ r f p ram1 o v q. apart (cc);
         start = λ i d ram1 q. apart (cc);
         fail = λ i d ram1 q. apart (cc);
       })
@@ -156,7 +161,7 @@ module _ (s : State) (b : ℕ) (room ram uds : List ℕ) where
         more = λ i o q. apart (cc);
         halt = λ w n q. apart (cc);
         reply = λ r f q. apart (cc);
-        progress = λ r f p ram1 o q. apart (cc);
+        progress = λ r f p ram1 o v q. apart (cc);
         start = λ i d ram1 q. apart (cc);
         fail = λ i d ram1 q. apart (cc);
       })
@@ -170,7 +175,7 @@ module _ (s : State) (b : ℕ) (room ram uds : List ℕ) where
         more = λ i o. omega arith;
         halt = λ k n. omega arith;
         reply = λ r f. let l = f .0 in omega arith;
-        progress = λ r f p ram1 o. let l = f .0 in omega arith;
+        progress = λ r f p ram1 o v. let l = f .0 in omega arith;
         start = λ i d ram1. omega arith;
         fail = λ i d ram1. omega arith;
       })
@@ -195,7 +200,7 @@ module _ (s : State) (b : ℕ) (room ram uds : List ℕ) where
         more = λ i o. refl;
         halt = λ k n. refl;
         reply = λ r f. after-reply r (r .len + 1) (f .1);
-        progress = λ r f p ram1 o. after-reply r (r .len + 1) (f .1);
+        progress = λ r f p ram1 o v. after-reply r (r .len + 1) (f .1);
         start = λ i d ram1. after-digest (i .header) d;
         fail = λ i d ram1. after-digest (i .header) d;
       })
@@ -212,10 +217,32 @@ module _ (s : State) (b : ℕ) (room ram uds : List ℕ) where
         more = λ i o q. (refl, refl, refl, refl);
         halt = λ w n q. apart (cc);
         reply = λ r f q. (refl, refl, refl, refl);
-        progress = λ r f p ram1 o q. (refl, refl, refl, refl);
+        progress = λ r f p ram1 o v q. (refl, refl, refl, refl);
         start = λ i d ram1 q. apart (cc);
         fail = λ i d ram1 q. apart (cc);
       })
+
+  -- while the session goes on, the head is live
+  was-live : step s b room ram uds .report ≡ continues → live (s .progress .phase) ≡ true
+  was-live q = go (eqb (number s b room ram uds) 0) refl
+    where
+      go : (t : Bool) → eqb (number s b room ram uds) 0 ≡ t → live (s .progress .phase) ≡ true
+      go true z = admitted s (length room) (length ram) (length uds) (eqb-true (number s b room ram uds) 0 z) .goes
+      go false z = let e = sym (refused-when (number s b room ram uds) (refl, eqb-false (number s b room ram uds) 0 z)) ∙ q in apart (cc)
+
+  lives : step s b room ram uds .report ≡ continues → live (step s b room ram uds .state .progress .phase) ≡ true
+  unfolding starting
+  lives r =
+      by-step s b room ram uds (λ (o : Outcome). o .report ≡ continues → live (o .state .progress .phase) ≡ true)
+      (record {
+        refused = λ j e n q. apart (cc);
+        more = λ i o q. was-live r;
+        halt = λ w n q. apart (cc);
+        reply = λ x f q. was-live r;
+        progress = λ x f p ram1 o v q. v (was-live r);
+        start = λ i d ram1 q. apart (cc);
+        fail = λ i d ram1 q. apart (cc);
+      }) r
 
   abbrev Stops : ℕ → Outcome → Type 0
   Stops k o =
@@ -233,7 +260,7 @@ module _ (s : State) (b : ℕ) (room ram uds : List ℕ) where
             let z : k ≡ j = cc in
             (refl, refl, refl, refl, rw (ne-eqb k 25 (λ x. n (sym z ∙ x))), λ x. (refl, refl));
         reply = λ r f q. apart (cc);
-        progress = λ r f p ram1 o q. apart (cc);
+        progress = λ r f p ram1 o v q. apart (cc);
         start = λ i d ram1 q. apart (cc);
         fail = λ i d ram1 q.
             let z : k ≡ 25 = cc in
@@ -253,10 +280,50 @@ module _ (s : State) (b : ℕ) (room ram uds : List ℕ) where
         more = λ i o q. apart (cc);
         halt = λ w n q. apart (cc);
         reply = λ r f q. apart (cc);
-        progress = λ r f p ram1 o q. apart (cc);
+        progress = λ r f p ram1 o v q. apart (cc);
         start = λ i d ram1 q. (cc, cc, refl, refl, refl);
         fail = λ i d ram1 q. apart (cc);
       })
+
+-- ---- begin
+
+-- a begin goes one of three ways
+by-begin : (P : Beginning → Type 0) (bytes udi : List ℕ) (m : ℕ) → ((k : ℕ) → P (ending (refused k) 1))
+    → (ramOk m ≡ true → (k : ℕ) → P (ending (stopped k) m)) → (ramOk m ≡ true → (v : Bool) → P (waitingWith (configOf v (recordAt bytes) udi m)))
+    → P (beginning bytes udi m)
+unfolding beginning
+by-begin P bytes udi m f g h = go (eqb (length bytes) 256) (ramOk m) refl
+  where
+    by-type : (t : ResetType) → ramOk m ≡ true → P (byType t (recordAt bytes) udi m)
+    by-type Flash0 e = g e 21
+    by-type Flash1 e = g e 21
+    by-type Flash0Ver e = g e 21
+    by-type Flash1Ver e = g e 21
+    by-type Client e = h e false
+    by-type ClientVer e = h e true
+    by-type Unknown e = g e 20
+
+    go : (x y : Bool) → ramOk m ≡ y
+        → P (cond (eqb (cond (not x) 6 (cond (not y) 7 0)) 0) (byType (recordAt bytes .«reset_type») (recordAt bytes) udi m) (ending (refused (cond (not x) 6 (cond (not y) 7 0))) 1))
+    go true true e = by-type (recordAt bytes .«reset_type») e
+    go true false e = f 7
+    go false y e = f 6
+
+begun : (bytes udi : List ℕ) (m : ℕ) → inRange (beginning bytes udi m .state) ≡ true
+begun bytes udi m =
+    by-begin (λ (x : Beginning). inRange (x .state) ≡ true) bytes udi m (λ k. stopped-ok 1 refl) (λ e k. stopped-ok m e) (λ e v. in-range _ e refl refl)
+
+after-stop : (b : ℕ) (room ram uds : List ℕ) (m : ℕ) → ramOk m ≡ true
+    → step (ended phase.Stopped m) b room ram uds ≡ refusing 2 (ended phase.Stopped m) room ram uds
+unfolding step refusal ended
+after-stop b room ram uds m e = rw (stopped-ok m e)
+
+no-session : (bytes udi : List ℕ) (m : ℕ) → (beginning bytes udi m .report ≡ continues → ⊥) → (b : ℕ) (room ram uds : List ℕ)
+    → step (beginning bytes udi m .state) b room ram uds ≡ refusing 2 (beginning bytes udi m .state) room ram uds
+no-session bytes udi m =
+    by-begin
+    (λ (x : Beginning). (x .report ≡ continues → ⊥) → (b : ℕ) (room ram uds : List ℕ) → step (x .state) b room ram uds ≡ refusing 2 (x .state) room ram uds)
+    bytes udi m (λ k n b room ram uds. after-stop b room ram uds 1 refl) (λ e k n b room ram uds. after-stop b room ram uds m e) (λ e v n. absurd (n refl))
 
 pub loader : Loader
 loader = record {
@@ -268,9 +335,12 @@ loader = record {
     fits = fits s b room ram uds;
     beyond = beyond s b room ram uds;
     goes-on = goes-on s b room ram uds;
+    lives = lives s b room ram uds;
     stops = stops s b room ram uds;
     starts = starts s b room ram uds;
   };
+  begun = begun;
+  no-session = no-session;
   frame = frame-whole;
   passed-over = passed-over;
 }

@@ -13,7 +13,7 @@ use Rattle.protocol.specs.Replies.{sent, nameReply, udiReply, blockReply, diges
 use Rattle.protocol.specs.Theorems.{Framed}
 use Rattle.protocol.proofs.Proved.{protocol}
 use Rattle.protocol.specs.declared.Reply.{Reply}
-use Rattle.loader.specs.State.{bodyLen, incomingOk, loadingOk, progressIn, progressOk, ended}
+use Rattle.loader.specs.State.{bodyLen, incomingOk, loadingOk, progressIn, progressOk, live, ended}
 use Rattle.loader.specs.Answers.{stopped, continues, Outcome}
 use Rattle.loader.specs.Machine.{putIn, plain, stopping, starting, opened, continued, gathered, actionIn, between, replying, loaded, loadOf, takes, loadAnswer, afterLoad, nextBlock, allowed, finishedWith, actedBlock, performed, acted, refusal, withIncoming, afterByte, processed, refusing, step}
 use Rattle.loader.proofs.Ranges.{both, by-test, length-some, loading-facts, no-block, range-facts}
@@ -84,7 +84,8 @@ module _ (s : State) (b : ℕ) (room ram uds : List ℕ) (P : Outcome → Type 0
     -- a query, or a load that is not taken
     pub reply : (r : Reply) → Framed r → P (replying r (between s (s .progress)) room ram uds)
     -- a load that is taken, or a block that is not the last
-    pub progress : (r : Reply) → Framed r → (p : Progress) (ram1 : List ℕ) → progressOk p (s .config .«ram_len») ≡ true → P (replying r (between s p) room ram1 uds)
+    pub progress : (r : Reply) → Framed r → (p : Progress) (ram1 : List ℕ) → progressOk p (s .config .«ram_len») ≡ true
+        → (live (s .progress .phase) ≡ true → live (p .phase) ≡ true) → P (replying r (between s p) room ram1 uds)
     -- the last block
     pub start : (i : Incoming) (d ram1 : List ℕ) → P (starting d (withIncoming s i) (putIn room (sent (digestReply (i .header) d))) ram1 uds)
     pub fail : (i : Incoming) (d ram1 : List ℕ)
@@ -101,7 +102,7 @@ module _ (s : State) (b : ℕ) (room ram uds : List ℕ) (P : Outcome → Type 0
     block-ways i next =
         by-test P (isLast (s .progress .size) (s .progress .block)) _ _
         (λ l. finish-ways i _ _)
-        (λ l. w .progress (blockReply (i .header)) (protocol .lengths (i .header) [] [] true .3) (nextBlock (s .progress)) _ (next l))
+        (λ l. w .progress (blockReply (i .header)) (protocol .lengths (i .header) [] [] true .3) (nextBlock (s .progress)) _ (next l) (λ v. v))
 
     load-ways : (i : Incoming) → P (performed action.Load (withIncoming s i) room ram uds)
     unfolding afterLoad loadAnswer
@@ -109,7 +110,7 @@ module _ (s : State) (b : ℕ) (room ram uds : List ℕ) (P : Outcome → Type 0
         let t = withIncoming s i in
         let f = protocol .lengths (i .header) [] [] (takes t) .2 in
         by-test (λ (p : Progress). P (replying (loadAnswer t) (between s p) room ram uds)) (takes t) _ _
-        (λ g. w .progress (loadAnswer t) f (loaded (loadOf t)) ram (loaded-ok t g))
+        (λ g. w .progress (loadAnswer t) f (loaded (loadOf t)) ram (loaded-ok t g) (λ v. refl))
         (λ g. w .reply (loadAnswer t) f)
 
     action-ways : (i : Incoming) (c n : ℕ) (d : Action) → actionIn (s .progress .phase) c n ≡ d → progressOk (s .progress) (s .config .«ram_len») ≡ true

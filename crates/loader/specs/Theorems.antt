@@ -1,4 +1,4 @@
--- What is proved about a call, besides the promise of `receive`. The proof is `loader` in proofs/Proved.antt.
+-- What is proved about a call, besides the promises of `begin` and `receive`. The proof is `loader` in proofs/Proved.antt.
 use Prim.Native.Nat.{ℕ, _+_, _≤_}
 use mathlib.Core.Path.{_≡_}
 use mathlib.Core.Logic.{_↔_}
@@ -8,8 +8,9 @@ use lib.Dec.{eqb}
 use lib.ListN.{length, drop}
 use lib.Seq.{paste}
 use Rattle.framing.specs.Header.{good, headerAt}
-use Rattle.loader.specs.State.{zeros, inRange, idle, ended}
+use Rattle.loader.specs.State.{zeros, inRange, live, idle, ended}
 use Rattle.loader.specs.Answers.{refused, continues, stopped, started, reportOf, Outcome}
+use Rattle.loader.specs.Begin.{beginning}
 use Rattle.loader.specs.Machine.{gathered, refusal, refusing, step}
 use Rattle.loader.specs.declared.Phase.the-variants as phase
 use Rattle.loader.specs.declared.Incoming.{Incoming}
@@ -53,6 +54,8 @@ module _ (s : State) (b : ℕ) (room ram uds : List ℕ) where
     pub goes-on : after .report ≡ continues
         → (after .state .config ≡ s .config) × (after .uds ≡ uds)
         × (after .cdi ≡ zeros 32) × (after .digest ≡ zeros 32)
+    -- and it has neither started nor stopped
+    pub lives : after .report ≡ continues → live (after .state .progress .phase) ≡ true
     -- after a stop the state is the one of an end and the UDS stays; only 25 has a reply, and only it comes after RAM was written
     pub stops : (k : ℕ) → after .report ≡ stopped k
         → (after .state ≡ ended phase.Stopped (s .config .«ram_len»)) × (after .uds ≡ uds)
@@ -68,6 +71,10 @@ pub record Loader : Type 0 where
   -- the reported number and values settle the answer
   pub answers : (x y : Answer) → reportOf x ≡ reportOf y → x ≡ y
   pub call : (s : State) (b : ℕ) (room ram uds : List ℕ) → Call s b room ram uds
+  -- every state that begin hands back is in range; after a refusal or a stop every call on it is refused with 2
+  pub begun : (bytes udi : List ℕ) (m : ℕ) → inRange (beginning bytes udi m .state) ≡ true
+  pub no-session : (bytes udi : List ℕ) (m : ℕ) → (beginning bytes udi m .report ≡ continues → ⊥) → (b : ℕ) (room ram uds : List ℕ)
+      → step (beginning bytes udi m .state) b room ram uds ≡ refusing 2 (beginning bytes udi m .state) room ram uds
   -- a good frame gathered from its header to its last byte: one for the firmware is whole, with its body at the front of the gathered bytes; one
   -- for another endpoint leaves nothing
   pub frame : (i : Incoming) (h id ep n : ℕ) (body : List ℕ) → i .got ≡ 0 → length (i .body) ≡ 128 → headerAt h ≡ good id ep n → length body ≡ n

@@ -1,0 +1,11 @@
+pub mod Frames
+pub mod Gathering
+pub mod Shapes
+pub mod Acting
+pub mod Calls
+pub mod Walk
+pub mod Begins
+pub mod Existence
+pub mod Feeding
+pub mod Strings
+pub mod Proved

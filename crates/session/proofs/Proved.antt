@@ -1,0 +1,254 @@
+-- Demand 3 (specs/Demand3.antt).
+use Prim.Native.Nat.{ℕ, _+_, _≤_}
+use mathlib.Core.Path.{_≡_, refl, sym, ap, _∙_, subst}
+use mathlib.Core.Logic.{_⊎_, inl, inr, _↔_}
+use mathlib.Core.Bool.{Bool, true, false, not, cond, _||_}
+use mathlib.Core.Option.{Option, none, some}
+use mathlib.Core.List.{List, [], _∷_, _++_, append-nil, tail-eq-of-cons-eq, head-eq-of-cons-eq, List·Memᴰ, List·Memᴰ·not-nil, List·Memᴰ·cases-cons}
+use native.Mathlib.Omega.{arith}
+use lib.Dec.{eqb, ltb}
+use lib.ListN.{length, getD, length-append}
+use Rattle.blake2s.specs.Rfc7693.{blake2s, bytes}
+use Rattle.cdi.specs.Theorems.{Inputs}
+use Rattle.cdi.proofs.Proved.{cdi}
+use Rattle.protocol.specs.Commands.{loadIn, usesUss}
+use Rattle.protocol.specs.Theorems.{loadWith}
+use Rattle.protocol.specs.declared.Load.{Load}
+use Rattle.record.specs.Record.{typeField, numberIn}
+use Rattle.loader.specs.State.{live, idle}
+use Rattle.loader.specs.Answers.{refused}
+use Rattle.loader.specs.Begin.{waiting, beginning}
+use Rattle.loader.proofs.Bytes.{bytes-length}
+use Rattle.loader.proofs.Proved.{loader}
+use Rattle.session.specs.Reading.{All, Good, joined, own, digestOf, Allowed, chained, measuredId, Starting}
+use Rattle.session.specs.Session.{Words, Call, Entry, log, isAccepted, accepted, bytesOf, OneRam, Session, allOf, acceptedOf, hasEnded, refusalIn}
+use Rattle.session.specs.Demand3.{StartedAt, Started, Reads, used, userSecret, stringOf, Start, stringAt, Gives, Same, StartOf, Demand3}
+use Rattle.session.proofs.Frames.{reads-on}
+use Rattle.session.proofs.Shapes.{one-shape}
+use Rattle.session.proofs.Acting.{empty-rest, at, is-waiting, Leaves}
+use Rattle.session.proofs.Calls.{Live}
+use Rattle.session.proofs.Walk.{Walk, walk, Begun, Answered}
+use Rattle.session.proofs.Begins.{Fresh, fresh, Runs, table-from}
+use Rattle.session.proofs.Existence as made
+use Rattle.session.proofs.Feeding.{feed, one-ram, same-uds, Fed, fed}
+use Rattle.session.proofs.Strings.{same-words, digest-length, id-length, uss-length, same-secret}
+use Rattle.loader.specs.declared.State.{State}
+
+-- ---- one reading
+
+last-same : (xs ys : List (List ℕ)) (a b : List ℕ) → xs ++ a ∷ [] ≡ ys ++ b ∷ [] → a ≡ b
+last-same [] [] a b e = head-eq-of-cons-eq e
+last-same [] (y ∷ ys) a b e = absurd (let l : 0 ≡ length (ys ++ b ∷ []) = ap length (tail-eq-of-cons-eq e) in let k = length-append ys (b ∷ []) in omega arith)
+last-same (x ∷ xs) [] a b e = absurd (let l : length (xs ++ a ∷ []) ≡ 0 = ap length (tail-eq-of-cons-eq e) in let k = length-append xs (a ∷ []) in omega arith)
+last-same (x ∷ xs) (y ∷ ys) a b e = last-same xs ys a b (tail-eq-of-cons-eq e)
+
+no-frames : (hs : List (List ℕ)) → All Good hs → [] ≡ joined hs → hs ≡ []
+no-frames [] a e = refl
+no-frames ([] ∷ hs) a e = absurd (let l : 0 ≡ 1 + a .0 .n = a .0 .whole in omega arith)
+no-frames ((h ∷ f) ∷ hs) a e = absurd (let w : _≡_ {A = ℕ} 0 1 = cc in omega arith)
+
+module _ (rec : List ℕ) (m : ℕ) (heard : List ℕ) (w w′ : Starting rec m heard) where
+  same-frames : w .before ++ w .last ∷ [] ≡ w′ .before ++ w′ .last ∷ []
+  same-frames =
+      let u = reads-on (w′ .before ++ w′ .last ∷ []) (w .before ++ w .last ∷ []) [] (w′ .all-good) (w .all-good) (append-nil _ ∙ sym (w′ .nothing-left) ∙ w .nothing-left) in
+      u .frames ∙ ap (λ (x : List (List ℕ)). (w′ .before ++ w′ .last ∷ []) ++ x) (no-frames (u .rest) (u .all-good) (u .bytes)) ∙ append-nil _
+
+  one-reading : (w .opening ≡ w′ .opening) × (w .load ≡ w′ .load) × (w .blocks ≡ w′ .blocks)
+  one-reading =
+      one-shape m (w .opening) (w′ .opening) (w .load) (w′ .load) (w .blocks) (w′ .blocks) (w .opens) (w′ .opens) (w .loads) (w′ .loads)
+      (sym (w .order) ∙ ap own same-frames ∙ w′ .order)
+
+  one-last : w .last ≡ w′ .last
+  one-last = last-same (w .before) (w′ .before) (w .last) (w′ .last) same-frames
+
+-- ---- a session
+
+first-live : (rec udi : List ℕ) (m : ℕ) (r : List ℕ) → Fresh rec udi m → Live rec udi m [] (beginning rec udi m .state) r
+first-live rec udi m r f =
+    record { frames = []; part = []; all-good = tt; whole = refl; partial = tt; progress = waiting; state = f .state; doing = is-waiting tt }
+
+first-runs : (rec udi : List ℕ) (m : ℕ) → Fresh rec udi m → Runs m (beginning rec udi m .state) false
+first-runs rec udi m f =
+    record {
+      range = loader .begun rec udi m;
+      ram = ap (λ (s : State). s .config .«ram_len») (f .state);
+      goes = ap (λ (s : State). live (s .progress .phase)) (f .state);
+    }
+
+module _ (S : Session) where
+  begins : Fresh (S .rec) (S .udi) (S .ramLen)
+  begins = fresh (S .rec) (S .udi) (S .ramLen) (S .begins) (S .client)
+
+  walked : Walk (S .rec) (S .udi) (S .ramLen) [] (acceptedOf S)
+  walked = walk (S .rec) (S .udi) (S .ramLen) (S .calls) [] _ (S .ram) (first-live (S .rec) (S .udi) (S .ramLen) (S .ram) begins) (S .one-ram)
+
+  begun : (e : Entry) → StartedAt S e → Begun (S .rec) (S .udi) (S .ramLen) (bytesOf (acceptedOf S)) e
+  begun e t = walked .only e (t .among) (record { address = t .address; size = t .size; answers = t .answers })
+
+  pub exactly : Started S ↔ Reads S
+  exactly = (
+    λ t. begun (t .0) (t .1) .reading,
+    λ w. let t = walked .whenever w in (t .0, record { among = t .1; address = t .2 .address; size = t .2 .size; answers = t .2 .answers }),
+  )
+
+  module _ (t : Start S) where
+    leaves : Leaves (S .rec) (S .udi) (S .ramLen) (t .reading .load) (t .reading .blocks) (getD (t .reading .last) 0 0) (t .entry .call .room) (t .entry .call .uds) (t .entry .out)
+    leaves =
+        let b = begun (t .entry) (t .started-at) in
+        let o = one-reading (S .rec) (S .ramLen) (bytesOf (acceptedOf S)) (b .reading) (t .reading) in
+        let l = one-last (S .rec) (S .ramLen) (bytesOf (acceptedOf S)) (b .reading) (t .reading) in
+        subst (λ (f : List ℕ). Leaves (S .rec) (S .udi) (S .ramLen) (t .reading .load) (t .reading .blocks) (getD f 0 0) (t .entry .call .room) (t .entry .call .uds) (t .entry .out)) l
+        (subst (λ (f : List (List ℕ)). Leaves (S .rec) (S .udi) (S .ramLen) (t .reading .load) f (getD (b .reading .last) 0 0) (t .entry .call .room) (t .entry .call .uds) (t .entry .out)) (o .2)
+        (subst (λ (f : List ℕ). Leaves (S .rec) (S .udi) (S .ramLen) f (b .reading .blocks) (getD (b .reading .last) 0 0) (t .entry .call .room) (t .entry .call .uds) (t .entry .out)) (o .1)
+        (b .leaves)))
+
+    -- what its CDI is derived from
+    inputs : Inputs
+    inputs =
+        record {
+          uds = bytes (t .entry .call .uds);
+          chained = chained (S .rec);
+          measuredId = measuredId (S .rec);
+          digest = digestOf (t .reading .load) (t .reading .blocks);
+          used = used (t .reading);
+          uss = loadIn (t .reading .load) .uss;
+          uds-length = bytes-length (t .entry .call .uds);
+          measuredId-length = id-length (S .rec) (begins .size);
+          digest-length = digest-length _;
+          uss-length = uss-length (t .reading .load) (t .reading .loads .0);
+        }
+
+    pub gives : Gives t
+    unfolding inputs
+    gives =
+        let l = leaves in
+        record {
+          report = l .report;
+          cdi = l .cdi;
+          string-length = cdi .size inputs;
+          digests = l .digests;
+          front = l .front;
+          reply = l .reply;
+          room = l .room-after;
+          eight = begun (t .entry) (t .started-at) .eight;
+          cleared = l .cleared;
+        }
+
+  pub table : (before after : List Entry) (e : Entry) → allOf S ≡ before ++ e ∷ after
+      → (k : ℕ) → (e .out .report ≡ refused k) ↔ ((k ≡ refusalIn (hasEnded before) (S .ramLen) (e .call)) × (k ≡ 0 → ⊥))
+  table before after e q k =
+      subst (λ (o : Bool). (e .out .report ≡ refused k) ↔ ((k ≡ refusalIn o (S .ramLen) (e .call)) × (k ≡ 0 → ⊥))) (or-false (hasEnded before))
+      (table-from (S .ramLen) (S .calls) (beginning (S .rec) (S .udi) (S .ramLen) .state) false (first-runs (S .rec) (S .udi) (S .ramLen) begins) before after e q k)
+    where
+      or-false : (x : Bool) → x || false ≡ x
+      or-false true = refl
+      or-false false = refl
+
+pub injective : (S S′ : Session) (t : Start S) (t′ : Start S′) → stringAt t ≡ stringAt t′ → Same t t′
+unfolding inputs
+injective S S′ t t′ e =
+    let i = cdi .injective (inputs S t) (inputs S′ t′) e in
+    record {
+      uds = same-words (t .entry .call .uds) (t′ .entry .call .uds) (gives S t .eight) (gives S′ t′ .eight) (t .entry .call .words) (t′ .entry .call .words) (i .0);
+      chaining = i .1;
+      measured = i .2;
+      secret = same-secret (used (t .reading)) (used (t′ .reading)) _ _ (i .3) (i .4);
+    }
+
+-- ---- refusal 1
+
+pub record Split (l : List Entry) (e : Entry) : Type 0 where
+  pub before : List Entry
+  pub after : List Entry
+  pub whole : l ≡ before ++ e ∷ after
+
+split : (l : List Entry) (e : Entry) → List·Memᴰ e l → Split l e
+split [] e i = absurd (List·Memᴰ·not-nil i)
+split (x ∷ l) e i = go (List·Memᴰ·cases-cons i) (λ j. split l e j)
+  where
+    go : (e ≡ x) ⊎ List·Memᴰ e l → (List·Memᴰ e l → Split l e) → Split (x ∷ l) e
+    go (inl q) f = record { before = []; after = l; whole = ap (λ (y : Entry). y ∷ l) (sym q) }
+    go (inr j) f = let s = f j in record { before = x ∷ s .before; after = s .after; whole = ap (λ (y : List Entry). x ∷ y) (s .whole) }
+
+never-one : (S : Session) (e : Entry) → List·Memᴰ e (allOf S) → e .out .report ≡ refused 1 → ⊥
+never-one S e i q =
+    let s = split (allOf S) e i in
+    go (hasEnded (s .before)) (ltb (length (e .call .room)) 129) (eqb (length (e .call .ram)) (S .ramLen)) (eqb (length (e .call .uds)) 8) (table S (s .before) (s .after) e (s .whole) 1 .0 q .0)
+  where
+    go : (a b c d : Bool) → _≡_ {A = ℕ} 1 (cond a 2 (cond b 3 (cond (not c) 4 (cond (not d) 5 0)))) → ⊥
+    go true b c d z = omega arith
+    go false true c d z = omega arith
+    go false false false d z = omega arith
+    go false false true false z = omega arith
+    go false false true true z = omega arith
+
+-- ---- existence
+
+module _ (rec udi ram uds prog : List ℕ) (flag : Bool) (uss : List ℕ) (accepts : isAccepted (beginning rec udi (length ram) .report) ≡ true)
+    (client : (numberIn typeField rec ≡ 4) ⊎ (numberIn typeField rec ≡ 5)) (eight : length uds ≡ 8) (typed : Words uds) (least : 1 ≤ length prog)
+    (fits : length prog ≤ length ram) (allows : Allowed rec (blake2s [] prog 32)) (secret : length uss ≡ 32) where
+  fresh-head : Fresh rec udi (length ram)
+  fresh-head = fresh rec udi (length ram) accepts client
+
+  small : length prog ≤ 131072
+  small = let s = fresh-head .small in omega arith
+
+  abbrev sent : List ℕ
+  sent = joined (made.frames prog least small flag uss secret rec (length ram) fits allows)
+
+  abbrev session : Session
+  session =
+      record {
+        rec = rec;
+        udi = udi;
+        ramLen = length ram;
+        begins = accepts;
+        client = client;
+        calls = feed uds typed sent (beginning rec udi (length ram) .state) ram;
+        ram = ram;
+        one-ram = one-ram uds typed sent (beginning rec udi (length ram) .state) ram;
+      }
+
+  all-fed : Fed uds typed rec udi (length ram) eight sent (allOf session)
+  all-fed =
+      fed uds typed rec udi (length ram) eight sent [] (beginning rec udi (length ram) .state) ram (first-live rec udi (length ram) ram fresh-head)
+      (first-runs rec udi (length ram) fresh-head) refl (made.reading prog least small flag uss secret rec (length ram) fits allows sent refl)
+
+  all-heard : bytesOf (acceptedOf session) ≡ sent
+  all-heard = ap bytesOf (all-fed .none-refused) ∙ all-fed .all-bytes
+
+  abbrev reading : Reads session
+  reading = made.reading prog least small flag uss secret rec (length ram) fits allows (bytesOf (acceptedOf session)) all-heard
+
+  -- the flag of the load says whether there is a user secret
+  secret-of : (l : Load) (v : Bool) → l ≡ loadWith (length prog) (cond v 1 0) uss → cond (usesUss l) (some (l .uss)) none ≡ cond v (some uss) none
+  secret-of l true e = rw e refl
+  secret-of l false e = rw e refl
+
+  exists : StartOf rec udi ram uds prog (cond flag (some uss) none)
+  exists =
+      let t = exactly session .1 reading in
+      record {
+        session = session;
+        start = record { entry = t .0; started-at = t .1; reading = reading };
+        same-record = refl;
+        same-udi = refl;
+        same-length = refl;
+        same-ram = refl;
+        same-uds = same-uds uds typed sent (beginning rec udi (length ram) .state) ram (t .0) (subst (List·Memᴰ (t .0)) (all-fed .none-refused) (t .1 .among));
+        same-program = made.reading-program prog least small flag uss secret rec (length ram) fits allows (bytesOf (acceptedOf session)) all-heard;
+        same-secret = secret-of (loadIn (reading .load)) flag (made.reading-load prog least small flag uss secret rec (length ram) fits allows (bytesOf (acceptedOf session)) all-heard);
+        none-refused = all-fed .none-refused;
+      }
+
+pub demand3 : Demand3
+demand3 =
+    record {
+      exactly = exactly;
+      gives = gives;
+      one-reading = λ S. one-reading (S .rec) (S .ramLen) (bytesOf (acceptedOf S));
+      injective = injective;
+      table = table;
+      never-one = never-one;
+      exists = exists;
+    }

@@ -1,0 +1,81 @@
+-- The string of a start fixes what it is made of: eight words by their bytes, and the rest by the places in the string.
+use Prim.Native.Nat.{ℕ, zero, suc, _+_, _*_, _/_, _%_, _^_, _<_, _≤_}
+use mathlib.Core.Path.{_≡_, refl, sym, ap, _∙_}
+use mathlib.Core.Bool.{Bool, true, false, cond}
+use mathlib.Core.Option.{Option, none, some}
+use mathlib.Core.List.{List, [], _∷_}
+use native.Mathlib.Omega.{arith}
+use lib.ListN.{length, getD, take, drop, length-take, length-drop}
+use lib.Seq.{ext-getD}
+use Rattle.blake2s.specs.Rfc7693.{initial, compressions, compressed, blake2s, bytes}
+use Rattle.blake2s.proofs.Lists.{getD-each}
+use Rattle.loader.proofs.Bytes.{bytes-length}
+use Rattle.loader.proofs.Ranges.{never}
+use Rattle.protocol.specs.Commands.{loadIn}
+use Rattle.session.specs.Reading.{bodyOf, Load, measuredId}
+use Rattle.session.specs.Session.{Words}
+
+-- byte j of word k
+byte-of : (h : List ℕ) (k j : ℕ) → k < 8 → j < 4 → getD (bytes h) (4 * k + j) 0 ≡ getD h k 0 / 2 ^ (8 * j) % 2 ^ 8
+unfolding bytes
+byte-of h k j l n =
+    let a : (4 * k + j) / 4 ≡ k = omega arith in
+    let b : (4 * k + j) % 4 ≡ j = omega arith in
+    getD-each 32 (λ i. getD h (i / 4) 0 / 2 ^ (8 * (i % 4)) % 2 ^ 8) 0 (4 * k + j) (omega arith)
+    ∙ ap (λ (x : ℕ). getD h x 0 / 2 ^ (8 * ((4 * k + j) % 4)) % 2 ^ 8) a
+    ∙ ap (λ (x : ℕ). getD h k 0 / 2 ^ (8 * x) % 2 ^ 8) b
+
+-- a word below 2^32 is its four bytes
+rebuilt : (x : ℕ) → x < 4294967296 → x ≡ x / 1 % 256 + 256 * (x / 256 % 256) + 65536 * (x / 65536 % 256) + 16777216 * (x / 16777216 % 256)
+rebuilt x h =
+    let a : x / 256 / 256 ≡ x / 65536 = omega arith in
+    let b : x / 65536 / 256 ≡ x / 16777216 = omega arith in
+    let c : x / 16777216 % 256 ≡ x / 16777216 = omega arith in
+    let d : x / 65536 ≡ x / 65536 % 256 + 256 * (x / 16777216) = omega arith in
+    let e : x / 256 ≡ x / 256 % 256 + 256 * (x / 65536) = omega arith in
+    let f : x ≡ x / 1 % 256 + 256 * (x / 256) = omega arith in
+    omega arith
+
+four-bytes : (x y : ℕ) → x < 4294967296 → y < 4294967296 → x / 1 % 256 ≡ y / 1 % 256 → x / 256 % 256 ≡ y / 256 % 256 → x / 65536 % 256 ≡ y / 65536 % 256
+    → x / 16777216 % 256 ≡ y / 16777216 % 256 → x ≡ y
+four-bytes x y hx hy a b c d = rebuilt x hx ∙ rw (a, b, c, d) (sym (rebuilt y hy))
+
+word-below : (h : List ℕ) → Words h → (k : ℕ) → k < length h → getD h k 0 < 4294967296
+word-below [] w k l = absurd (omega arith)
+word-below (x ∷ h) w zero l = w .0
+word-below (x ∷ h) w (suc k) l = word-below h (w .1) k (omega arith)
+
+pub same-words : (h h′ : List ℕ) → length h ≡ 8 → length h′ ≡ 8 → Words h → Words h′ → bytes h ≡ bytes h′ → h ≡ h′
+same-words h h′ l l′ w w′ e =
+    ext-getD 0 h h′ (l ∙ sym l′)
+    (λ k n.
+    let at : (j : ℕ) → j < 4 → getD h k 0 / 2 ^ (8 * j) % 2 ^ 8 ≡ getD h′ k 0 / 2 ^ (8 * j) % 2 ^ 8 =
+    λ j m. sym (byte-of h k j (omega arith) m) ∙ ap (λ (x : List ℕ). getD x (4 * k + j) 0) e ∙ byte-of h′ k j (omega arith) m in
+    four-bytes (getD h k 0) (getD h′ k 0) (word-below h w k n) (word-below h′ w′ k (omega arith)) (at 0 (omega arith)) (at 1 (omega arith)) (at 2 (omega arith)) (at 3 (omega arith)))
+
+-- ---- lengths
+
+pub digest-length : (msg : List ℕ) → length (blake2s [] msg 32) ≡ 32
+unfolding blake2s
+digest-length msg = first-32 (bytes (state msg)) (bytes-length (state msg))
+  where
+    state : List ℕ → List ℕ
+    state m = compressed (initial 0 32) (compressions [] m)
+
+    first-32 : (l : List ℕ) → length l ≡ 32 → length (take 32 l) ≡ 32
+    first-32 l e = length-take 32 l ∙ omega arith
+
+pub id-length : (rec : List ℕ) → length rec ≡ 256 → length (measuredId rec) ≡ 32
+id-length rec l = length-take 32 (drop 40 rec) ∙ omega (arith, length-drop 40 rec)
+
+pub uss-length : (f : List ℕ) → Load f → length (loadIn f .uss) ≡ 32
+unfolding loadIn
+uss-length f l = let b : length (drop 1 f) ≡ 128 = l .0 in length-take 32 (drop 7 f) ∙ omega (arith, length-drop 7 f, length-drop 1 f)
+
+-- ---- a user secret or none
+
+pub same-secret : (u v : Bool) (x y : List ℕ) → u ≡ v → cond u x [] ≡ cond v y [] → cond u (some x) none ≡ cond v (some y) none
+same-secret true true x y e q = ap some q
+same-secret true false x y e q = never e
+same-secret false true x y e q = never (sym e)
+same-secret false false x y e q = refl

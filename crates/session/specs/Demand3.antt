@@ -1,0 +1,121 @@
+-- Demand 3, whole: when a session has started, what that start gives, what two starts with one string share, when a call is refused, and that
+-- there are starts. docs/PROMISES.md reads it beside document 01. The proof is `demand3` in proofs/Proved.antt.
+use Prim.Native.Nat.{ℕ, _≤_}
+use mathlib.Core.Path.{_≡_}
+use mathlib.Core.Logic.{_↔_, _⊎_}
+use mathlib.Core.Bool.{Bool, true, cond}
+use mathlib.Core.Option.{Option, none, some}
+use mathlib.Core.List.{List, [], _∷_, _++_, List·Memᴰ}
+use lib.ListN.{length, getD, take}
+use Rattle.blake2s.specs.Rfc7693.{blake2s, bytes}
+use Rattle.cdi.specs.Cdi.{measurementOf, cdiString}
+use Rattle.protocol.specs.Commands.{loadIn, usesUss}
+use Rattle.protocol.specs.Replies.{sent, digestReply}
+use Rattle.record.specs.Record.{typeField, numberIn}
+use Rattle.loader.specs.State.{zeros}
+use Rattle.loader.specs.Answers.{refused, started}
+use Rattle.loader.specs.Begin.{beginning}
+use Rattle.loader.specs.Machine.{putIn}
+use Rattle.session.specs.Reading.{sizeOf, programOf, digestOf, Allowed, chained, measuredId, Starting}
+use Rattle.session.specs.Session.{Words, Entry, isAccepted, bytesOf, Session, allOf, acceptedOf, hasEnded, refusalIn}
+
+-- e is an accepted call of the session that answered a start
+pub record StartedAt (S : Session) (e : Entry) : Type 0 where
+  pub among : List·Memᴰ e (acceptedOf S)
+  pub address : ℕ
+  pub size : ℕ
+  pub answers : e .out .report ≡ started address size
+
+-- the head has started
+abbrev pub Started : Session → Type 0
+Started S = (e : Entry) × StartedAt S e
+
+-- the accepted bytes read as those of a start
+abbrev pub Reads : Session → Type 0
+Reads S = Starting (S .rec) (S .ramLen) (bytesOf (acceptedOf S))
+
+-- ---- a start, by the reading of its session
+
+module _ {rec : List ℕ} {m : ℕ} {heard : List ℕ} (w : Starting rec m heard) where
+  abbrev pub used : Bool
+  used = usesUss (loadIn (w .load))
+
+  -- the user secret of the load of good size, or none
+  abbrev pub userSecret : Option (List ℕ)
+  userSecret = cond used (some (loadIn (w .load) .uss)) none
+
+  abbrev pub program : List ℕ
+  program = programOf (w .load) (w .blocks)
+
+  abbrev pub digest : List ℕ
+  digest = digestOf (w .load) (w .blocks)
+
+  abbrev pub measurement : List ℕ
+  measurement = measurementOf (chained rec) (measuredId rec) digest
+
+  -- the string of a start, from the UDS at entry to the starting call
+  abbrev pub stringOf : List ℕ → List ℕ
+  stringOf uds = cdiString (bytes uds) (chained rec) (measuredId rec) digest used (loadIn (w .load) .uss)
+
+pub record Start (S : Session) : Type 0 where
+  pub entry : Entry
+  pub started-at : StartedAt S entry
+  pub reading : Reads S
+
+abbrev pub stringAt : {S : Session} → Start S → List ℕ
+stringAt t = stringOf (t .reading) (t .entry .call .uds)
+
+-- what the starting call gives and leaves
+pub record Gives {S : Session} (t : Start S) : Type 0 where
+  -- address and size, the CDI and the digest
+  pub report : t .entry .out .report ≡ started 0x40000000 (sizeOf (t .reading .load))
+  pub cdi : t .entry .out .cdi ≡ blake2s [] (stringAt t) 32
+  pub string-length : length (stringAt t) ≡ cond (used (t .reading)) 97 65
+  pub digests : t .entry .out .digest ≡ digest (t .reading)
+  -- the first n bytes carried at the front of its RAM
+  pub front : take (sizeOf (t .reading .load)) (t .entry .out .ram) ≡ program (t .reading)
+  -- the reply to the last block, and no other byte of the room
+  pub reply : t .entry .out .reply ≡ 129
+  pub room : t .entry .out .room ≡ putIn (t .entry .call .room) (sent (digestReply (getD (t .reading .last) 0 0) (digest (t .reading))))
+  -- eight words at entry, and each of them zero at exit
+  pub eight : length (t .entry .call .uds) ≡ 8
+  pub cleared : t .entry .out .uds ≡ zeros 8
+
+-- what two starts with one string share
+pub record Same {S S′ : Session} (t : Start S) (t′ : Start S′) : Type 0 where
+  pub uds : t .entry .call .uds ≡ t′ .entry .call .uds
+  pub chaining : chained (S .rec) ≡ chained (S′ .rec)
+  pub measured : measurement (t .reading) ≡ measurement (t′ .reading)
+  pub secret : userSecret (t .reading) ≡ userSecret (t′ .reading)
+
+-- a start of this program with this user secret or none, on a head with this record, UDI, RAM and UDS
+pub record StartOf (rec udi ram uds prog : List ℕ) (secret : Option (List ℕ)) : Type 0 where
+  pub session : Session
+  pub start : Start session
+  pub same-record : session .rec ≡ rec
+  pub same-udi : session .udi ≡ udi
+  pub same-length : session .ramLen ≡ length ram
+  pub same-ram : session .ram ≡ ram
+  pub same-uds : start .entry .call .uds ≡ uds
+  pub same-program : program (start .reading) ≡ prog
+  pub same-secret : userSecret (start .reading) ≡ secret
+  -- no call of it is refused
+  pub none-refused : acceptedOf session ≡ allOf session
+
+pub record Demand3 : Type 0 where
+  -- a head has started exactly when its accepted bytes read as those of a start
+  pub exactly : (S : Session) → Started S ↔ Reads S
+  -- every start gives what it should, and the reading of its bytes is one
+  pub gives : (S : Session) (t : Start S) → Gives t
+  pub one-reading : (S : Session) (w w′ : Reads S) → (w .opening ≡ w′ .opening) × (w .load ≡ w′ .load) × (w .blocks ≡ w′ .blocks)
+  -- two starts of one head or of two, the strings of which are equal
+  pub injective : (S S′ : Session) (t : Start S) (t′ : Start S′) → stringAt t ≡ stringAt t′ → Same t t′
+  -- every call of the list answers a number of refusal exactly when the table says so; refusal 1 is never answered
+  pub table : (S : Session) (before after : List Entry) (e : Entry) → allOf S ≡ before ++ e ∷ after
+      → (k : ℕ) → (e .out .report ≡ refused k) ↔ ((k ≡ refusalIn (hasEnded before) (S .ramLen) (e .call)) × (k ≡ 0 → ⊥))
+  pub never-one : (S : Session) (e : Entry) → List·Memᴰ e (allOf S) → e .out .report ≡ refused 1 → ⊥
+  -- every program of 1 byte to the RAM's length starts, if the record allows it, with any user secret or none, whatever RAM and UDS hold
+  pub exists : (rec udi ram uds prog : List ℕ) (flag : Bool) (uss : List ℕ)
+      → isAccepted (beginning rec udi (length ram) .report) ≡ true → (numberIn typeField rec ≡ 4) ⊎ (numberIn typeField rec ≡ 5)
+      → length uds ≡ 8 → Words uds → 1 ≤ length prog → length prog ≤ length ram → Allowed rec (blake2s [] prog 32) → length uss ≡ 32
+      → StartOf rec udi ram uds prog (cond flag (some uss) none)

@@ -1,0 +1,3 @@
+pub mod Reading
+pub mod Session
+pub mod Demand3

@@ -1,0 +1,114 @@
+-- How document 01 reads the bytes of a session: "The words of demand 3", sentence by sentence. Nothing here knows of a head or of its state. A
+-- frame is the list of its bytes, the header first.
+use Prim.Native.Nat.{ℕ, _+_}
+use mathlib.Core.Path.{_≡_}
+use mathlib.Core.Logic.{_⊎_}
+use mathlib.Core.Bool.{Bool, true, false, cond}
+use mathlib.Core.List.{List, [], _∷_, _++_}
+use lib.Dec.{eqb}
+use lib.ListN.{length, getD, take, drop}
+use Rattle.framing.specs.Header.{good, headerAt, inField, endpoint}
+use Rattle.blake2s.specs.Rfc7693.{blake2s}
+use Rattle.protocol.specs.Commands.{firmware, commandIn, loadIn, goodLoad, usesUss, carriedBy, blocksFor}
+use Rattle.record.specs.Record.{typeField, maskField, requiredField, measuredIdField, fieldOf, numberIn, resetSeed}
+
+-- each frame of a list is such
+abbrev pub All : (List ℕ → Type 0) → List (List ℕ) → Type 0
+All P [] = Unit {0}
+All P (f ∷ fs) = P f × All P fs
+
+-- a good frame: a header with bits 7 and 2 zero, then a body of the length that it gives; it is whole when all of that body is there
+pub record Good (f : List ℕ) : Type 0 where
+  pub id : ℕ
+  pub ep : ℕ
+  pub n : ℕ
+  pub header : headerAt (getD f 0 0) ≡ good id ep n
+  pub whole : length f ≡ 1 + n
+
+-- the bytes of frames one after the other
+abbrev pub joined : List (List ℕ) → List ℕ
+joined [] = []
+joined (f ∷ fs) = f ++ joined fs
+
+-- a frame with endpoint 2
+abbrev pub forFirmware : List ℕ → Bool
+forFirmware f = eqb (inField endpoint (getD f 0 0)) firmware
+
+-- the frames with endpoint 2: the others are left out
+abbrev pub own : List (List ℕ) → List (List ℕ)
+own [] = []
+own (f ∷ fs) = cond (forFirmware f) (f ∷ own fs) (own fs)
+
+abbrev pub bodyOf : List ℕ → List ℕ
+bodyOf f = drop 1 f
+
+-- a query has a body of 1 byte, 0x01 or 0x08
+abbrev pub Query : List ℕ → Type 0
+Query f = (length (bodyOf f) ≡ 1) × ((commandIn f ≡ 0x01) ⊎ (commandIn f ≡ 0x08))
+
+-- a load has a body of 128 that begins with 0x03; m is the RAM's length at begin
+abbrev pub Load : List ℕ → Type 0
+Load f = (length (bodyOf f) ≡ 128) × (commandIn f ≡ 0x03)
+
+abbrev pub GoodLoad : ℕ → List ℕ → Type 0
+GoodLoad m f = Load f × (goodLoad m (loadIn f) ≡ true)
+
+abbrev pub BadLoad : ℕ → List ℕ → Type 0
+BadLoad m f = Load f × (goodLoad m (loadIn f) ≡ false)
+
+-- what may come before the load of a good size
+abbrev pub Opens : ℕ → List ℕ → Type 0
+Opens m f = Query f ⊎ BadLoad m f
+
+-- a block has a body of 128 that begins with 0x05 and carries the other 127 bytes
+abbrev pub Block : List ℕ → Type 0
+Block f = (length (bodyOf f) ≡ 128) × (commandIn f ≡ 0x05)
+
+-- the bytes that blocks carry, in order
+abbrev pub carried : List (List ℕ) → List ℕ
+carried [] = []
+carried (f ∷ fs) = carriedBy f ++ carried fs
+
+-- the size that a load gives
+abbrev pub sizeOf : List ℕ → ℕ
+sizeOf load = loadIn load .size
+
+-- the first n bytes carried
+abbrev pub programOf : List ℕ → List (List ℕ) → List ℕ
+programOf load blocks = take (sizeOf load) (carried blocks)
+
+abbrev pub digestOf : List ℕ → List (List ℕ) → List ℕ
+digestOf load blocks = blake2s [] (programOf load blocks) 32
+
+-- a program of this digest may start: type 5 requires record bytes 8 to 39
+abbrev pub Allowed : List ℕ → List ℕ → Type 0
+Allowed rec d = numberIn typeField rec ≡ 5 → d ≡ fieldOf requiredField rec
+
+-- mask bit 0: chained if it is 1, direct if it is 0
+abbrev pub chained : List ℕ → Bool
+chained rec = resetSeed (numberIn maskField rec)
+
+abbrev pub measuredId : List ℕ → List ℕ
+measuredId rec = fieldOf measuredIdField rec
+
+-- the accepted bytes of a session that has started, for the record and the RAM's length at begin
+pub record Starting (rec : List ℕ) (m : ℕ) (heard : List ℕ) : Type 0 where
+  -- whole good frames one after the other, with nothing left over, and the last is a block
+  pub before : List (List ℕ)
+  pub last : List ℕ
+  pub all-good : All Good (before ++ last ∷ [])
+  pub nothing-left : heard ≡ joined (before ++ last ∷ [])
+  pub last-own : forFirmware last ≡ true
+  pub last-block : Block last
+  -- of those with endpoint 2: queries and loads of a bad size in any order and number, one load of a good size, then blocks
+  pub opening : List (List ℕ)
+  pub load : List ℕ
+  pub blocks : List (List ℕ)
+  pub order : own (before ++ last ∷ []) ≡ opening ++ load ∷ blocks
+  pub opens : All (Opens m) opening
+  pub loads : GoodLoad m load
+  pub carry : All Block blocks
+  -- n needs ceil(n / 127) of them
+  pub enough : length blocks ≡ blocksFor (sizeOf load)
+  -- where a digest is required, the first n bytes carried have it
+  pub allowed : Allowed rec (digestOf load blocks)
