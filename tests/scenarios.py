@@ -1,16 +1,15 @@
 #!/usr/bin/env python3
-"""The expected standard output of the program `scenarios`: document 01's head, written again from the document.
+"""The expected standard output of the program `scenarios`: the same sessions, played to the head of head.py.
 
     scenarios.py                 prints it
     scenarios.py --check FILE    exits non-zero, and says what differs, unless FILE holds it
 """
-import hashlib
 import sys
 from copy import deepcopy
-from dataclasses import dataclass, field
 from itertools import chain
 
 import stored
+from head import ADDRESS, ZEROS, Answer, Frame, Head, blake2s
 
 # What every scenario has in common.
 RAM = 300
@@ -19,177 +18,11 @@ UDI = bytes(range(0xD0, 0xD8))
 MEASURED_ID = b"\x3c" * 32
 PROGRAM = bytes((7 * i + 3) % 256 for i in range(3 * 127))
 COUNTING = bytes(range(0xA0, 0xC0))
-ZEROS = bytes(32)
-
-FIRMWARE = 2
-ADDRESS = 0x40000000
 
 
-def blake2s(data):
-    return hashlib.blake2s(bytes(data), digest_size=32).digest()
-
-
-@dataclass
-class Answer:
-    """W goes on, X is a refusal and F a stop with its number, S a start with its size; reply is how many bytes of the room are one."""
-
-    kind: str
-    number: int = 0
-    reply: int = 0
-    cdi: bytes = ZEROS
-    digest: bytes = ZEROS
-
-
-@dataclass
-class Frame:
-    """The frame that is being heard: got counts the header, and is 0 between frames."""
-
-    header: int = 0
-    got: int = 0
-    body: bytearray = field(default_factory=lambda: bytearray(128))
-
-    def bad(self):
-        return self.header & 0b10000100 != 0
-
-    def length(self):
-        return [1, 4, 32, 128][self.header & 3]
-
-    def endpoint(self):
-        return self.header >> 3 & 3
-
-
-@dataclass
-class Head:
-    """A head between two bytes."""
-
-    ram: int = RAM
-    required: bytes | None = None  # type 5 if there is one, otherwise type 4
-    measured_id: bytes | None = None  # the mask has RESET_SEED if there is one
-    phase: str = "waiting"
-    size: int = 0
-    block: int = 0
-    uss: bytes = ZEROS
-    uss_used: bool = False
-    frame: Frame = field(default_factory=Frame)
-
-    # ---- refused calls
-
-    def in_range(self):
-        f = self.frame
-        if not 1 <= self.ram <= 131072:
-            return False
-        if f.got == 0 and f.header != 0:
-            return False
-        if f.got > 0 and (f.bad() or f.got > f.length()):
-            return False
-        if self.phase == "waiting":
-            return self.size == 0 and self.block == 0 and not self.uss_used and self.uss == ZEROS
-        if self.phase == "loading":
-            return 1 <= self.size <= self.ram and self.block * 127 < self.size
-        return True
-
-    def refusal(self, room, ram, words):
-        """The lowest number that applies, 0 if none does."""
-        numbers = {
-            1: not self.in_range(),
-            2: self.phase in ("started", "stopped"),
-            3: len(room) < 129,
-            4: len(ram) != self.ram,
-            5: len(words) != 8,
-        }
-        return min((k for k, applies in numbers.items() if applies), default=0)
-
-    # ---- a byte
-
-    def hear(self, byte, room, ram, words):
-        number = self.refusal(room, ram, words)
-        if number:
-            return Answer("X", number)
-        f = self.frame
-        if f.got == 0:
-            f.header = byte
-            f.got = 1
-            return self.stop(22) if f.bad() else Answer("W")
-        if f.endpoint() == FIRMWARE:
-            f.body[f.got - 1] = byte
-        f.got += 1
-        if f.got <= f.length():
-            return Answer("W")
-        self.frame = Frame()
-        return self.act(f, room, ram, words) if f.endpoint() == FIRMWARE else Answer("W")
-
-    def stop(self, number, reply=0):
-        self.end("stopped")
-        return Answer("F", number, reply)
-
-    def end(self, phase):
-        """Nothing but the RAM's length is kept."""
-        vars(self).update(vars(Head(ram=self.ram, phase=phase)))
-
-    def secrets(self):
-        return any(self.uss) or any(self.measured_id or ZEROS) or any(self.frame.body)
-
-    # ---- a whole frame
-
-    def act(self, f, room, ram, words):
-        commands = {
-            "waiting": {0x01: (1, self.name), 0x08: (1, self.udi), 0x03: (128, self.load)},
-            "loading": {0x05: (128, self.take_block)},
-        }[self.phase]
-        if f.body[0] not in commands:
-            return self.stop(23)
-        length, action = commands[f.body[0]]
-        if f.length() != length:
-            return self.stop(24)
-        return action(f, room, ram, words)
-
-    @staticmethod
-    def reply(f, room, code, length, content):
-        """Writes a reply, and says how many bytes it has."""
-        header = (f.header & 0b01100000) | FIRMWARE << 3 | [1, 4, 32, 128].index(length)
-        reply = bytes([header, code]) + content
-        reply += bytes(1 + length - len(reply))
-        room[: len(reply)] = reply
-        return len(reply)
-
-    def name(self, f, room, ram, words):
-        return Answer("W", reply=self.reply(f, room, 0x02, 32, b"tk1 mkdf" + (1).to_bytes(4, "little")))
-
-    def udi(self, f, room, ram, words):
-        return Answer("W", reply=self.reply(f, room, 0x09, 32, b"\0" + UDI))
-
-    def load(self, f, room, ram, words):
-        message = bytes([f.header]) + f.body  # the document's positions count the header
-        size = int.from_bytes(message[2:6], "little")
-        good = 1 <= size <= self.ram
-        if good:
-            self.phase = "loading"
-            self.size = size
-            self.uss_used = message[6] == 1
-            self.uss = message[7:39]
-        return Answer("W", reply=self.reply(f, room, 0x04, 4, bytes([0 if good else 1])))
-
-    def take_block(self, f, room, ram, words):
-        start = 127 * self.block
-        carried = f.body[1 : 1 + min(127, self.size - start)]
-        ram[start : start + len(carried)] = carried
-        self.block += 1
-        if self.block < (self.size + 126) // 127:
-            return Answer("W", reply=self.reply(f, room, 0x06, 4, b"\0"))
-        digest = blake2s(ram[: self.size])
-        reply = self.reply(f, room, 0x07, 128, b"\0" + digest)
-        if self.required is not None and self.required != digest:
-            return self.stop(25, reply)
-        answer = Answer("S", self.size, reply, self.cdi(digest, words), digest)
-        words[:] = [0] * 8
-        self.end("started")
-        return answer
-
-    def cdi(self, digest, words):
-        chained = self.measured_id is not None
-        domain = bytes([self.uss_used + 2 * chained])
-        uds = b"".join(w.to_bytes(4, "little") for w in words)
-        return blake2s(uds + domain + (self.measured_id if chained else digest) + (self.uss if self.uss_used else b""))
+def waiting(**changes):
+    """A head that waits, but for the changes."""
+    return Head(**(dict(ram=RAM, udi=UDI) | changes))
 
 
 # ---- what the server sends
@@ -227,7 +60,7 @@ class Session:
     """A head with its memory, and the lines that the program prints of it."""
 
     def __init__(self, head=None):
-        self.head = head or Head()
+        self.head = head or waiting()
         self.ram = bytearray(b"\xaa" * RAM)
         self.words = list(UDS)
         self.heard = 0
@@ -273,7 +106,7 @@ class Session:
 
 
 def session(title, data, **head):
-    s = Session(Head(**head))
+    s = Session(waiting(**head))
     yield f"# {title}"
     yield from s.send(data)
     yield from s.finish()
@@ -400,12 +233,12 @@ def stops():
 def ripe(header=0x13, got=128, **changes):
     """A head that starts with the next byte."""
     changes = dict(phase="loading", size=100) | changes
-    return Head(frame=Frame(header, got, bytearray(block(0))), **changes)
+    return waiting(frame=Frame(header, got, bytearray(block(0))), **changes)
 
 
 def asked(**changes):
     """A head that replies to a query with the next byte, 0x01."""
-    return Head(frame=Frame(0x10, 1, bytearray(block(0))), **changes)
+    return waiting(frame=Frame(0x10, 1, bytearray(block(0))), **changes)
 
 
 def call(head, room=160, ram=RAM, words=8):

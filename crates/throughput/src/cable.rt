@@ -1,0 +1,76 @@
+// The cable: a head with 131,072 bytes of RAM receives whole loads.
+use super::frames;
+use loader::Answer;
+use loader::Received;
+use loader::State;
+
+// What the loads came to.
+pub struct Loaded {
+    // How many bytes were received.
+    pub received: u64,
+    // The answer to the last one.
+    pub last: Received,
+}
+
+// Loads a program of this size so many times.
+pub fn load_often(size: u32, times: u32) -> Loaded {
+    let mut bytes = [0u8; 133386];
+    let mut ram = [0u8; 131072];
+    frames::fill(size, &mut bytes);
+    repeat(first(&bytes, frames::length(size)), times, &mut ram)
+}
+
+// The first n bytes. No caller asks for more than there are, and the test spares the proof of it.
+fn first(s: &[u8], n: usize) -> &[u8] {
+    if n <= s.len() { &s[..n] } else { s }
+}
+
+fn repeat(bytes: &[u8], times: u32, ram: &mut [u8]) -> Loaded {
+    let mut left = times;
+    let mut received: u64 = 0;
+    let mut last = going_on(begun());
+    while 0 < left {
+        let next = session(bytes, ram);
+        last = next;
+        received = std::num::wrapping_add_u64(received, bytes.len() as u64);
+        left = left - 1;
+    }
+    Loaded { received, last }
+}
+
+// One session, from begin on. It starts with the last byte or not at all, so that a start says that every byte was accepted.
+fn session(bytes: &[u8], ram: &mut [u8]) -> Received {
+    let mut room = [0u8; 129];
+    let mut words = [0x13121110u32; 8];
+    play(begun(), bytes, &mut room, ram, &mut words)
+}
+
+// A head begun on a record of type 4.
+fn begun() -> State {
+    let mut record = [0u8; 256];
+    record[0] = 4;
+    let b = loader::begin(&record, [0xd0; 8], 131072);
+    b.state
+}
+
+// The answer before the first byte.
+fn going_on(state: State) -> Received {
+    Received {
+        answer: Answer::Continue,
+        reply: 0,
+        state,
+        cdi: [0; 32],
+        digest: [0; 32],
+    }
+}
+
+fn play(s: State, bytes: &[u8], room: &mut [u8], ram: &mut [u8], words: &mut [u32]) -> Received {
+    let mut last = going_on(s);
+    let mut i: usize = 0;
+    while i < bytes.len() {
+        let next = loader::receive(last.state, bytes[i], room, ram, words);
+        last = next;
+        i = i + 1;
+    }
+    last
+}

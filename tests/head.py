@@ -1,0 +1,236 @@
+"""Document 01's head, written again from the document: the second implementation that the tests hold the loader to.
+
+Nothing here is taken from the loader. BLAKE2s is hashlib's.
+"""
+import hashlib
+from dataclasses import dataclass, field
+
+ZEROS = bytes(32)
+FIRMWARE = 2
+ADDRESS = 0x40000000
+
+RECORD = 256
+TYPE_CLIENT = 4
+TYPE_CLIENT_VER = 5
+RAM_MOST = 131072
+
+
+def blake2s(data):
+    return hashlib.blake2s(bytes(data), digest_size=32).digest()
+
+
+def number(data):
+    return int.from_bytes(data, "little")
+
+
+@dataclass
+class Answer:
+    """W goes on, X is a refusal and F a stop with its number, S a start with its size; reply is how many bytes of the room are one."""
+
+    kind: str
+    number: int = 0
+    reply: int = 0
+    cdi: bytes = ZEROS
+    digest: bytes = ZEROS
+
+
+@dataclass
+class Frame:
+    """The frame that is being heard: got counts the header, and is 0 between frames."""
+
+    header: int = 0
+    got: int = 0
+    body: bytearray = field(default_factory=lambda: bytearray(128))
+
+    def bad(self):
+        return self.header & 0b10000100 != 0
+
+    def length(self):
+        return [1, 4, 32, 128][self.header & 3]
+
+    def endpoint(self):
+        return self.header >> 3 & 3
+
+
+@dataclass
+class Head:
+    """A head between two bytes."""
+
+    ram: int
+    udi: bytes = bytes(8)
+    required: bytes | None = None  # type 5 if there is one, otherwise type 4
+    measured_id: bytes | None = None  # the mask has RESET_SEED if there is one
+    phase: str = "waiting"
+    size: int = 0
+    block: int = 0
+    uss: bytes = ZEROS
+    uss_used: bool = False
+    frame: Frame = field(default_factory=Frame)
+
+    # ---- refused calls
+
+    def in_range(self):
+        f = self.frame
+        if not 1 <= self.ram <= RAM_MOST:
+            return False
+        if f.got == 0 and f.header != 0:
+            return False
+        if f.got > 0 and (f.bad() or f.got > f.length()):
+            return False
+        if self.phase == "waiting":
+            return self.size == 0 and self.block == 0 and not self.uss_used and self.uss == ZEROS
+        if self.phase == "loading":
+            return 1 <= self.size <= self.ram and self.block * 127 < self.size
+        return True
+
+    def refusal(self, room, ram, words):
+        """The lowest number that applies, 0 if none does."""
+        numbers = {
+            1: not self.in_range(),
+            2: self.phase in ("started", "stopped"),
+            3: len(room) < 129,
+            4: len(ram) != self.ram,
+            5: len(words) != 8,
+        }
+        return min((k for k, applies in numbers.items() if applies), default=0)
+
+    # ---- a byte
+
+    def hear(self, byte, room, ram, words):
+        refused = self.refusal(room, ram, words)
+        if refused:
+            return Answer("X", refused)
+        f = self.frame
+        if f.got == 0:
+            f.header = byte
+            f.got = 1
+            return self.stop(22) if f.bad() else Answer("W")
+        if f.endpoint() == FIRMWARE:
+            f.body[f.got - 1] = byte
+        f.got += 1
+        if f.got <= f.length():
+            return Answer("W")
+        self.frame = Frame()
+        return self.act(f, room, ram, words) if f.endpoint() == FIRMWARE else Answer("W")
+
+    def stop(self, why, reply=0):
+        self.end("stopped")
+        return Answer("F", why, reply)
+
+    def end(self, phase):
+        """Nothing but the RAM's length is kept."""
+        vars(self).update(vars(Head(self.ram, phase=phase)))
+
+    def secrets(self):
+        return any(self.uss) or any(self.measured_id or ZEROS) or any(self.frame.body)
+
+    # ---- a whole frame
+
+    def act(self, f, room, ram, words):
+        commands = {
+            "waiting": {0x01: (1, self.say_name), 0x08: (1, self.say_udi), 0x03: (128, self.load)},
+            "loading": {0x05: (128, self.take_block)},
+        }[self.phase]
+        if f.body[0] not in commands:
+            return self.stop(23)
+        length, action = commands[f.body[0]]
+        if f.length() != length:
+            return self.stop(24)
+        return action(f, room, ram, words)
+
+    @staticmethod
+    def reply(f, room, code, length, content):
+        """Writes a reply, and says how many bytes it has."""
+        header = (f.header & 0b01100000) | FIRMWARE << 3 | [1, 4, 32, 128].index(length)
+        reply = bytes([header, code]) + content
+        reply += bytes(1 + length - len(reply))
+        room[: len(reply)] = reply
+        return len(reply)
+
+    def say_name(self, f, room, ram, words):
+        return Answer("W", reply=self.reply(f, room, 0x02, 32, b"tk1 mkdf" + (1).to_bytes(4, "little")))
+
+    def say_udi(self, f, room, ram, words):
+        return Answer("W", reply=self.reply(f, room, 0x09, 32, b"\0" + self.udi))
+
+    def load(self, f, room, ram, words):
+        message = bytes([f.header]) + f.body  # the document's positions count the header
+        size = number(message[2:6])
+        good = 1 <= size <= self.ram
+        if good:
+            self.phase = "loading"
+            self.size = size
+            self.uss_used = message[6] == 1
+            self.uss = message[7:39]
+        return Answer("W", reply=self.reply(f, room, 0x04, 4, bytes([0 if good else 1])))
+
+    def take_block(self, f, room, ram, words):
+        start = 127 * self.block
+        carried = f.body[1 : 1 + min(127, self.size - start)]
+        ram[start : start + len(carried)] = carried
+        self.block += 1
+        if self.block < (self.size + 126) // 127:
+            return Answer("W", reply=self.reply(f, room, 0x06, 4, b"\0"))
+        digest = blake2s(ram[: self.size])
+        reply = self.reply(f, room, 0x07, 128, b"\0" + digest)
+        if self.required is not None and self.required != digest:
+            return self.stop(25, reply)
+        answer = Answer("S", self.size, reply, self.cdi(digest, words), digest)
+        words[:] = [0] * 8
+        self.end("started")
+        return answer
+
+    def cdi(self, digest, words):
+        chained = self.measured_id is not None
+        domain = bytes([self.uss_used + 2 * chained])
+        uds = b"".join(w.to_bytes(4, "little") for w in words)
+        return blake2s(uds + domain + (self.measured_id if chained else digest) + (self.uss if self.uss_used else b""))
+
+
+# ---- begin
+
+
+def begin(record, udi, ram):
+    """The answer, and a head; after a refusal or a stop it is one that has stopped."""
+    if len(record) != RECORD:
+        return Answer("X", 6), Head(1, phase="stopped")
+    if not 1 <= ram <= RAM_MOST:
+        return Answer("X", 7), Head(1, phase="stopped")
+    kind = number(record[0:4])
+    if kind not in (TYPE_CLIENT, TYPE_CLIENT_VER):
+        return Answer("F", 20 if kind >= 6 else 21), Head(ram, phase="stopped")
+    required = record[8:40] if kind == TYPE_CLIENT_VER else None
+    measured_id = record[40:72] if number(record[4:8]) & 1 else None
+    return Answer("W"), Head(ram, udi, required, measured_id)
+
+
+# ---- the session printer
+
+PRINTER_RAM = 32768
+PREFIX = RECORD + 32 + 8
+
+
+def headlog(data):
+    """The printer's lines for this input, and how many of its bytes are read: none after the end."""
+    if len(data) < PREFIX:
+        return ["E 1"], len(data)
+    record, uds, udi = data[:256], data[256:288], data[288:296]
+    words = [number(uds[i : i + 4]) for i in range(0, 32, 4)]
+    answer, head = begin(record, udi, PRINTER_RAM)
+    room, ram = bytearray(129), bytearray(PRINTER_RAM)
+    lines = []
+    at = PREFIX
+    while answer.kind == "W" and at < len(data):
+        answer = head.hear(data[at], room, ram, words)
+        at += 1
+        if answer.reply:
+            lines.append(f"R {room[:answer.reply].hex()}")
+    return lines + [last_line(answer, at - PREFIX)], at
+
+
+def last_line(answer, heard):
+    if answer.kind == "W":
+        return f"W {heard}"
+    if answer.kind == "S":
+        return f"S {answer.number} {answer.cdi.hex()}"
+    return f"F {answer.number}"

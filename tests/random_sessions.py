@@ -1,0 +1,118 @@
+#!/usr/bin/env python3
+"""Holds the program `headlog` to head.py on random sessions, the same ones at each run: every line, and how much of its input it reads.
+
+    random_sessions.py [--headlog PATH]    plays them all; exits non-zero if one differs, or if a kind of session never comes up
+    random_sessions.py --seed N            writes that session's bytes to standard output, for headlog to read
+"""
+import argparse
+import os
+import subprocess
+import sys
+import tempfile
+from collections import Counter
+from pathlib import Path
+
+from head import PREFIX, headlog
+from sessions import LARGE_SIZES, SIZES, STOPPING_TYPES, session
+
+HEADLOG = Path(__file__).parent.parent / "target" / "bin" / "headlog"
+SESSIONS = 1200
+MOST_FAILURES = 5
+SECONDS = 60  # for one session
+
+# The complete output that document 01 gives for record type 4, all else zero, then bytes 10 01.
+EXAMPLE = b"\x04" + bytes(295) + b"\x10\x01"
+EXAMPLE_LINES = ["R 1202746b31206d6b64660100000000000000000000000000000000000000000000", "W 2"]
+
+# What must come up, so that agreement says something.
+ENDS = ["S", "W", "E 1"] + [f"F {k}" for k in range(20, 26)]
+STARTS = [f"type {t}, {d}, {u}" for t in (4, 5) for d in ("direct", "chained") for u in ("no USS", "USS")]
+REPLIES = {"0274": "name", "0900": "UDI", "0400": "load taken", "0401": "load not taken", "0600": "block", "0700": "last block"}
+EDGES = [f"start of size {n}" for n in SIZES + LARGE_SIZES] + [f"stop at type {t}" for t in STOPPING_TYPES]
+
+
+def play(program, data):
+    """What the program wrote, its exit status, and the place in its input where it left off."""
+    with tempfile.TemporaryFile() as f:
+        f.write(data)
+        f.seek(0)
+        done = subprocess.run([program], stdin=f, capture_output=True, timeout=SECONDS)
+        return done, os.lseek(f.fileno(), 0, os.SEEK_CUR)
+
+
+def wrong(program, data, lines, read):
+    """What is wrong with the program's run, or nothing."""
+    try:
+        done, place = play(program, data)
+    except (OSError, subprocess.TimeoutExpired) as why:
+        return str(why)
+    wanted = "".join(line + "\n" for line in lines).encode()
+    if done.stdout != wanted:
+        return first_difference(done.stdout, wanted)
+    if done.returncode != 0 or done.stderr:
+        return f"exit status {done.returncode}, standard error {done.stderr!r}"
+    return None if place == read else f"{place} bytes of the input were read, expected {read}"
+
+
+def first_difference(got, wanted):
+    pairs = zip(got.split(b"\n") + [None], wanted.split(b"\n") + [None])
+    k, (g, w) = next((k, pair) for k, pair in enumerate(pairs) if pair[0] != pair[1])
+    return f"line {k + 1}\n  got      {show(g)}\n  expected {show(w)}"
+
+
+def show(line):
+    return "nothing" if line is None else line.decode("latin-1")
+
+
+def kinds(s, lines):
+    """The kinds that a session counts for: its replies by code and status, and how it ends."""
+    return [REPLIES[line[4:8]] for line in lines[:-1]] + end_kinds(s, lines[-1])
+
+
+def end_kinds(s, last):
+    if last[0] == "S":
+        return ["S", s.start_kind(), f"start of size {len(s.program)}"]
+    if last in ("F 20", "F 21"):
+        return [last, f"stop at type {s.type}"]
+    return [last if last[0] in "EF" else last[0]]
+
+
+def main(program):
+    if headlog(EXAMPLE)[0] != EXAMPLE_LINES:
+        print("head.py does not print the document's example")
+        return 1
+    seen, heard, failures = Counter(), 0, 0
+    for seed in range(SESSIONS):
+        s, data = session(seed)
+        lines, read = headlog(data)
+        if what := wrong(program, data, lines, read):
+            print(f"seed {seed}: {what}\n  again: tests/random_sessions.py --seed {seed} | {program}")
+            failures += 1
+        if failures == MOST_FAILURES:
+            print("the sessions after these are not played")
+            return 1
+        seen.update(kinds(s, lines))
+        heard += max(0, read - PREFIX)
+    return report(seen, heard) or failures > 0
+
+
+def report(seen, heard):
+    """Counts; 1 if a kind never came up."""
+    print(f"{SESSIONS} sessions, {heard} bytes heard")
+    for name, wanted in [("ends", ENDS), ("starts", STARTS), ("replies", REPLIES.values())]:
+        print(f"{name}: " + "; ".join(f"{k}: {seen[k]}" for k in wanted))
+    missing = [k for k in [*ENDS, *STARTS, *REPLIES.values(), *EDGES] if not seen[k]]
+    for k in missing:
+        print(f"never came up: {k}")
+    return 1 if missing else 0
+
+
+if __name__ == "__main__":
+    parser = argparse.ArgumentParser(description=__doc__, formatter_class=argparse.RawDescriptionHelpFormatter)
+    parser.add_argument("--headlog", default=HEADLOG)
+    parser.add_argument("--seed", type=int)
+    args = parser.parse_args()
+    if args.seed is not None:
+        sys.stdout.buffer.write(session(args.seed)[1])
+        sys.exit(0)
+    sys.exit(main(args.headlog))
