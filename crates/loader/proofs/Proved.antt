@@ -11,7 +11,7 @@ use borrow.Author.Tests.{ne-eqb, eq-eqb, eqb-true, eqb-false, le-leb}
 use Rattle.loader.specs.State.{zeros, incomingOk, progressOk, ramOk, inRange, live, ended}
 use Rattle.loader.specs.Answers.{refused, continues, stopped, started, refusalNumber, stopNumber, reportOf, Outcome}
 use Rattle.loader.specs.Begin.{Beginning, ending, waitingWith, configOf, byType, beginning}
-use Rattle.loader.specs.Machine.{starting, putIn, refusal, processed, refusing, step}
+use Rattle.loader.specs.Machine.{starting, putIn, refusal, refusing, step}
 use Rattle.loader.specs.Theorems.{Loader, number}
 use Rattle.loader.proofs.Ranges.{range-facts}
 use Rattle.loader.proofs.Steps.{admitted}

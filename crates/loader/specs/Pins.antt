@@ -1,6 +1,6 @@
 -- What no theorem about sessions can fix, since a head and a reading of the same bytes would share the mistake: small facts about the
 -- definitions, beside document 01, as one list. The proof is `pins` in proofs/Pinned.antt.
-use Prim.Native.Nat.{ℕ, _-_}
+use Prim.Native.Nat.{ℕ}
 use mathlib.Core.Path.{_≡_}
 use mathlib.Core.Bool.{true, false}
 use mathlib.Core.List.{List, [], _∷_, _++_}

@@ -2,17 +2,17 @@
 use Prim.Native.Nat.{ℕ, _≤_}
 use mathlib.Core.Path.{_≡_, refl, sym, ap, _∙_, subst}
 use mathlib.Core.Logic.{_↔_, _⊎_, inl, inr}
-use mathlib.Core.Bool.{Bool, true, false, not, cond, _||_}
+use mathlib.Core.Bool.{Bool, true, false, not, _||_}
 use mathlib.Core.List.{List, [], _∷_, _++_, head-eq-of-cons-eq, tail-eq-of-cons-eq}
 use native.Mathlib.Omega.{arith}
-use lib.Dec.{eqb, leb, ltb}
+use lib.Dec.{eqb, leb}
 use lib.ListN.{length}
 use borrow.Author.Tests.{eqb-true, leb-true}
 use Rattle.record.specs.Record.{typeField, numberIn, recordAt}
 use Rattle.loader.specs.State.{ramOk, inRange, live, idle, ended}
 use Rattle.loader.specs.Answers.{Report, refused, continues, stopped, started}
 use Rattle.loader.specs.Begin.{waiting, beginning}
-use Rattle.loader.specs.Machine.{refusal, step}
+use Rattle.loader.specs.Machine.{refusal}
 use Rattle.loader.proofs.Ranges.{never, both}
 use Rattle.loader.proofs.Proved.{loader}
 use Rattle.session.specs.Session.{Call, Entry, entryOf, log, isAccepted, isEnd, hasEnded, refusalIn}

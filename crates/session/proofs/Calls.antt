@@ -1,18 +1,18 @@
 -- One accepted call: what the accepted bytes so far are, and what the byte of the call makes of them.
-use Prim.Native.Nat.{ℕ, zero, suc, _+_, _*_, _<_, _≤_}
+use Prim.Native.Nat.{ℕ, suc, _+_}
 use mathlib.Core.Path.{_≡_, refl, sym, ap, _∙_, subst}
-use mathlib.Core.Bool.{Bool, true, false, cond}
+use mathlib.Core.Bool.{true}
 use mathlib.Core.List.{List, [], _∷_, _++_, append-assoc, append-nil, head-eq-of-cons-eq, tail-eq-of-cons-eq}
 use native.Mathlib.Omega.{arith}
 use lib.ListN.{length, getD, length-append}
-use Rattle.framing.specs.Header.{Reading, good, stop, headerAt}
+use Rattle.framing.specs.Header.{good, stop, headerAt}
 use Rattle.protocol.specs.Commands.{blocksFor}
-use Rattle.loader.specs.State.{idle, ended}
+use Rattle.loader.specs.State.{ended}
 use Rattle.loader.specs.Answers.{continues, stopped, Outcome}
-use Rattle.loader.specs.Machine.{gathered, withIncoming, afterByte, stopping, acted, processed}
+use Rattle.loader.specs.Machine.{gathered, withIncoming, afterByte, processed}
 use Rattle.session.specs.Reading.{All, Good, joined, forFirmware, own, sizeOf, Starting}
 use Rattle.session.specs.Session.{Call}
-use Rattle.session.proofs.Frames.{All-append, own-append, joined-snoc, own-more, own-same, same-size, good-lengths, Further, reads-on}
+use Rattle.session.proofs.Frames.{All-append, own-append, joined-snoc, own-more, own-same, same-size, Further, reads-on}
 use Rattle.session.proofs.Gathering.{holding, Partial, Gathers, at-bad, at-part, at-passed, at-whole, gathers}
 use Rattle.session.proofs.Shapes.{Shape}
 use Rattle.session.proofs.Acting.{empty-rest, grows, at, Doing, Complete, not-yet, Leaves, Acts, goes, starts, stops, acts}
@@ -20,7 +20,6 @@ use Rattle.loader.specs.declared.Phase.the-variants as phase
 use Rattle.loader.specs.declared.Progress.{Progress}
 use Rattle.loader.specs.declared.State.{State}
 use Rattle.loader.specs.declared.gathering.Gathered.{Gathered}
-use Rattle.loader.specs.declared.gathering.Step.the-variants.{More, Whole, Bad}
 
 -- what is left over of a part, in the bytes of whole good frames, is nothing
 none-partial : (p : List ℕ) (hs : List (List ℕ)) → Partial p → All Good hs → p ≡ joined hs → hs ≡ []

@@ -1,23 +1,21 @@
 -- A session that starts, for every program: its load and its blocks as frames, sent one byte at a time to a head that refuses none of them.
 use Prim.Native.Nat.{ℕ, zero, suc, _+_, _-_, _*_, _/_, _%_, _<_, _≤_}
-use mathlib.Core.Path.{_≡_, refl, sym, ap, _∙_, subst}
-use mathlib.Core.Bool.{Bool, true, false, not, cond}
-use mathlib.Core.List.{List, [], _∷_, _++_, append-assoc, append-nil, List·Memᴰ, List·Memᴰ·not-nil, List·Memᴰ·cases-cons}
-use mathlib.Core.Logic.{_⊎_, inl, inr}
+use mathlib.Core.Path.{_≡_, refl, sym, ap, _∙_}
+use mathlib.Core.Bool.{Bool, cond}
+use mathlib.Core.List.{List, [], _∷_, _++_, append-nil}
 use native.Mathlib.Omega.{arith}
-use lib.Dec.{eqb, ltb}
 use lib.ListN.{length, take, drop, replicate, length-append, length-take, length-drop, length-replicate, take-append-drop}
-use lib.Seq.{take-append-add, take-append-seam, take-all, drop-drop}
-use borrow.Author.Tests.{eq-eqb, eqb-true, le-leb}
-use Rattle.framing.specs.Header.{good, headerAt}
+use lib.Seq.{take-append-add, take-append-seam, take-all}
+use borrow.Author.Tests.{le-leb}
+use Rattle.framing.specs.Header.{headerAt}
 use Rattle.blake2s.specs.Rfc7693.{word, blake2s}
-use Rattle.protocol.specs.Commands.{loadIn, goodLoad, carriedBy, blocksFor}
+use Rattle.protocol.specs.Commands.{loadIn, goodLoad, blocksFor}
 use Rattle.protocol.specs.Replies.{filled}
 use Rattle.protocol.specs.Theorems.{loadWith}
 use Rattle.protocol.proofs.Proved.{protocol}
 use Rattle.protocol.specs.declared.Load.{Load}
 use Rattle.loader.specs.State.{zeros}
-use Rattle.session.specs.Reading.{All, Good, joined, forFirmware, own, GoodLoad, Opens, Block, carried, sizeOf, programOf, digestOf, Allowed, Starting}
+use Rattle.session.specs.Reading.{All, Good, joined, own, GoodLoad, Block, carried, programOf, Allowed, Starting}
 use Rattle.session.proofs.Frames.{All-append, own-more}
 use Rattle.session.proofs.Gathering.{length-snoc}
 use Rattle.session.proofs.Shapes.{carried-snoc}

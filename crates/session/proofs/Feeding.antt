@@ -1,19 +1,18 @@
 -- Bytes sent one at a time, each call with the RAM that the one before it left: where the bytes read as those of a start, no call is refused.
-use Prim.Native.Nat.{ℕ, _+_}
+use Prim.Native.Nat.{ℕ}
 use mathlib.Core.Path.{_≡_, refl, sym, ap, _∙_, subst}
 use mathlib.Core.Logic.{_⊎_, inl, inr}
-use mathlib.Core.Bool.{Bool, true, false, not, cond, _||_}
-use mathlib.Core.List.{List, [], _∷_, _++_, append-assoc, append-nil, List·Memᴰ, List·Memᴰ·not-nil, List·Memᴰ·cases-cons}
-use native.Mathlib.Omega.{arith}
+use mathlib.Core.Bool.{Bool, true, false, cond, _||_}
+use mathlib.Core.List.{List, [], _∷_, _++_, append-assoc, List·Memᴰ, List·Memᴰ·not-nil, List·Memᴰ·cases-cons}
 use lib.Dec.{eqb}
 use lib.ListN.{length}
 use borrow.Author.Tests.{eq-eqb, eqb-true}
 use Rattle.loader.specs.State.{zeros}
-use Rattle.loader.specs.Answers.{continues, Outcome}
+use Rattle.loader.specs.Answers.{Outcome}
 use Rattle.loader.specs.Machine.{processed, step}
 use Rattle.loader.proofs.Ranges.{never, by-test}
 use Rattle.session.specs.Reading.{Starting}
-use Rattle.session.specs.Session.{Words, Call, Entry, entryOf, log, isAccepted, accepted, bytesOf, OneRam, isEnd, refusalIn}
+use Rattle.session.specs.Session.{Words, Call, Entry, entryOf, log, isAccepted, accepted, bytesOf, OneRam, isEnd}
 use Rattle.session.proofs.Calls.{Live, After, goes-on, has-started, has-stopped, after}
 use Rattle.session.proofs.Walk.{numberOf, call-taken, call-is}
 use Rattle.session.proofs.Begins.{Runs, number-is, next-runs}

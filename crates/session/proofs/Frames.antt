@@ -1,12 +1,12 @@
 -- Frames are read off bytes in one way: where whole good frames begin the bytes of whole good frames, they begin the list of these frames.
-use Prim.Native.Nat.{ℕ, zero, suc, _+_, _≤_}
+use Prim.Native.Nat.{ℕ, suc, _+_}
 use mathlib.Core.Path.{_≡_, refl, sym, ap, _∙_}
 use mathlib.Core.Bool.{Bool, true, false, cond}
 use mathlib.Core.List.{List, [], _∷_, _++_, append-assoc, append-nil, head-eq-of-cons-eq, tail-eq-of-cons-eq}
 use native.Mathlib.Omega.{arith}
-use lib.ListN.{length, getD, drop, length-append}
-use Rattle.framing.specs.Header.{Reading, good, headerAt}
-use Rattle.session.specs.Reading.{All, Good, joined, forFirmware, own, Block, carried}
+use lib.ListN.{length}
+use Rattle.framing.specs.Header.{good}
+use Rattle.session.specs.Reading.{All, Good, joined, forFirmware, own}
 
 pub append-split : {A : Type 0} (a b x y : List A) → length a ≡ length b → a ++ x ≡ b ++ y → (a ≡ b) × (x ≡ y)
 append-split [] [] x y h e = (refl, e)

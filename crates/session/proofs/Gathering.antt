@@ -1,12 +1,11 @@
 -- What gathering a byte makes of the part of a frame that has come: what is gathered is a function of that part.
-use Prim.Native.Nat.{ℕ, zero, suc, _+_, _-_, _≤_, _<_}
-use mathlib.Core.Path.{_≡_, refl, sym, ap, _∙_}
+use Prim.Native.Nat.{ℕ, _+_, _-_, _<_}
+use mathlib.Core.Path.{_≡_, refl, ap}
 use mathlib.Core.Bool.{Bool, true, false, cond}
-use mathlib.Core.List.{List, [], _∷_, _++_, append-nil}
+use mathlib.Core.List.{List, [], _∷_, _++_}
 use native.Mathlib.Omega.{arith}
-use native.Mathlib.Numerals.{add-one}
 use lib.Dec.{eqb, ltb}
-use lib.ListN.{length, getD, set, drop, length-append}
+use lib.ListN.{length, set, drop, length-append}
 use borrow.Author.Tests.{ne-eqb, ltb-true, ltb-false}
 use Rattle.framing.specs.Header.{Reading, good, stop, headerAt, inField, endpoint}
 use Rattle.framing.proofs.Headers.{by-bits}

@@ -9,4 +9,4 @@ pub mod Existence
 pub mod Feeding
 pub mod Strings
 pub mod Proved
-pub mod Bench
+pub mod Checked

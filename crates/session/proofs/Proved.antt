@@ -1,33 +1,34 @@
--- Demand 3 (specs/Demand3.antt).
+-- Verified boot (specs/Boot.antt): each claim about a session from the walk over its calls.
 use Prim.Native.Nat.{ℕ, _+_, _≤_}
 use mathlib.Core.Path.{_≡_, refl, sym, ap, _∙_, subst}
 use mathlib.Core.Logic.{_⊎_, inl, inr, _↔_}
 use mathlib.Core.Bool.{Bool, true, false, not, cond, _||_}
-use mathlib.Core.Option.{Option, none, some}
+use mathlib.Core.Option.{none, some}
 use mathlib.Core.List.{List, [], _∷_, _++_, append-nil, tail-eq-of-cons-eq, head-eq-of-cons-eq, List·Memᴰ, List·Memᴰ·not-nil, List·Memᴰ·cases-cons}
 use native.Mathlib.Omega.{arith}
 use lib.Dec.{eqb, ltb}
 use lib.ListN.{length, getD, length-append}
 use Rattle.blake2s.specs.Rfc7693.{blake2s, bytes}
+use Rattle.cdi.specs.Cdi.{cdiString}
 use Rattle.cdi.specs.Theorems.{Inputs}
 use Rattle.cdi.proofs.Proved.{cdi}
 use Rattle.protocol.specs.Commands.{loadIn, usesUss}
 use Rattle.protocol.specs.Theorems.{loadWith}
 use Rattle.protocol.specs.declared.Load.{Load}
 use Rattle.record.specs.Record.{typeField, numberIn}
-use Rattle.loader.specs.State.{live, idle}
+use Rattle.loader.specs.State.{live}
 use Rattle.loader.specs.Answers.{refused}
 use Rattle.loader.specs.Begin.{waiting, beginning}
 use Rattle.loader.proofs.Bytes.{bytes-length}
 use Rattle.loader.proofs.Proved.{loader}
 use Rattle.session.specs.Reading.{All, Good, joined, own, digestOf, Allowed, chained, measuredId, Starting}
-use Rattle.session.specs.Session.{Words, Call, Entry, log, isAccepted, accepted, bytesOf, OneRam, Session, allOf, acceptedOf, hasEnded, refusalIn}
-use Rattle.session.specs.Demand3.{StartedAt, Started, Reads, used, userSecret, stringOf, Start, stringAt, Gives, Same, StartOf, Demand3}
+use Rattle.session.specs.Session.{Words, Entry, isAccepted, bytesOf, Session, allOf, acceptedOf, hasEnded, refusalIn}
+use Rattle.session.specs.Boot.{StartedAt, Started, Reads, used, Start, stringAt, Gives, Same, StartOf, VerifiedBoot}
 use Rattle.session.proofs.Frames.{reads-on}
 use Rattle.session.proofs.Shapes.{one-shape}
-use Rattle.session.proofs.Acting.{empty-rest, at, is-waiting, Leaves}
+use Rattle.session.proofs.Acting.{is-waiting, Leaves}
 use Rattle.session.proofs.Calls.{Live}
-use Rattle.session.proofs.Walk.{Walk, walk, Begun, Answered}
+use Rattle.session.proofs.Walk.{Walk, walk, Begun}
 use Rattle.session.proofs.Begins.{Fresh, fresh, Runs, table-from}
 use Rattle.session.proofs.Existence as made
 use Rattle.session.proofs.Feeding.{feed, one-ram, same-uds, Fed, fed}
@@ -60,6 +61,12 @@ module _ (rec : List ℕ) (m : ℕ) (heard : List ℕ) (w w′ : Starting rec m 
 
   one-last : w .last ≡ w′ .last
   one-last = last-same (w .before) (w′ .before) (w .last) (w′ .last) same-frames
+
+-- the string of a start is fixed by the load and the blocks
+one-string : (rec uds l l′ : List ℕ) (b b′ : List (List ℕ)) → l ≡ l′ → b ≡ b′
+    → cdiString (bytes uds) (chained rec) (measuredId rec) (digestOf l b) (usesUss (loadIn l)) (loadIn l .uss)
+    ≡ cdiString (bytes uds) (chained rec) (measuredId rec) (digestOf l′ b′) (usesUss (loadIn l′)) (loadIn l′ .uss)
+one-string rec uds l l′ b b′ p q = rw (p, q)
 
 -- ---- a session
 
@@ -241,12 +248,14 @@ module _ (rec udi ram uds prog : List ℕ) (flag : Bool) (uss : List ℕ) (accep
         none-refused = all-fed .none-refused;
       }
 
-pub demand3 : Demand3
-demand3 =
+pub verified-boot : VerifiedBoot
+verified-boot =
     record {
       exactly = exactly;
       gives = gives;
-      one-reading = λ S. one-reading (S .rec) (S .ramLen) (bytesOf (acceptedOf S));
+      one-reading = λ S w w′.
+          let o = one-reading (S .rec) (S .ramLen) (bytesOf (acceptedOf S)) w w′ in
+          (o .0, o .1, o .2, λ uds. one-string (S .rec) uds (w .load) (w′ .load) (w .blocks) (w′ .blocks) (o .1) (o .2));
       injective = injective;
       table = table;
       never-one = never-one;

@@ -1,5 +1,5 @@
 -- The frames of a start in one way: the load of a good size is the first frame that is neither a query nor a load of a bad size.
-use Prim.Native.Nat.{ℕ, suc, _+_, _-_, _*_, _<_, _≤_}
+use Prim.Native.Nat.{ℕ, _*_, _≤_}
 use mathlib.Core.Path.{_≡_, refl, sym, ap, _∙_}
 use mathlib.Core.Logic.{_⊎_, inl, inr, ⊎-elim}
 use mathlib.Core.Bool.{Bool, true, false, cond}
@@ -8,11 +8,11 @@ use native.Mathlib.Omega.{arith}
 use lib.Dec.{eqb}
 use lib.ListN.{length, drop, length-append, length-drop}
 use borrow.Author.Tests.{eqb-true, eqb-false}
-use Rattle.protocol.specs.Commands.{commandIn, loadIn, goodLoad, carriedBy, blocksFor}
+use Rattle.protocol.specs.Commands.{commandIn, loadIn, carriedBy}
 use Rattle.protocol.proofs.Proved.{protocol}
 use Rattle.loader.specs.Machine.{actionWaiting, actionLoading}
 use Rattle.loader.proofs.Ranges.{never}
-use Rattle.session.specs.Reading.{All, own, bodyOf, Query, Load, GoodLoad, BadLoad, Opens, Block, carried, sizeOf, digestOf, Allowed, Starting}
+use Rattle.session.specs.Reading.{All, bodyOf, Query, Load, GoodLoad, Opens, Block, carried, sizeOf}
 use Rattle.loader.specs.declared.acting.Action.{Action}
 use Rattle.loader.specs.declared.acting.Action.the-variants as action
 

@@ -1,8 +1,8 @@
 -- The string of a start fixes what it is made of: eight words by their bytes, and the rest by the places in the string.
-use Prim.Native.Nat.{ℕ, zero, suc, _+_, _*_, _/_, _%_, _^_, _<_, _≤_}
+use Prim.Native.Nat.{ℕ, zero, suc, _+_, _*_, _/_, _%_, _^_, _<_}
 use mathlib.Core.Path.{_≡_, refl, sym, ap, _∙_}
 use mathlib.Core.Bool.{Bool, true, false, cond}
-use mathlib.Core.Option.{Option, none, some}
+use mathlib.Core.Option.{none, some}
 use mathlib.Core.List.{List, [], _∷_}
 use native.Mathlib.Omega.{arith}
 use lib.ListN.{length, getD, take, drop, length-take, length-drop}
@@ -12,7 +12,7 @@ use Rattle.blake2s.proofs.Lists.{getD-each}
 use Rattle.loader.proofs.Bytes.{bytes-length}
 use Rattle.loader.proofs.Ranges.{never}
 use Rattle.protocol.specs.Commands.{loadIn}
-use Rattle.session.specs.Reading.{bodyOf, Load, measuredId}
+use Rattle.session.specs.Reading.{Load, measuredId}
 use Rattle.session.specs.Session.{Words}
 
 -- byte j of word k

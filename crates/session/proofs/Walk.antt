@@ -1,5 +1,5 @@
 -- The list of calls, from a head that goes on: where a call answers a start, the accepted bytes read as those of a start, and the other way round.
-use Prim.Native.Nat.{ℕ, _+_}
+use Prim.Native.Nat.{ℕ}
 use mathlib.Core.Path.{_≡_, refl, sym, ap, _∙_, subst}
 use mathlib.Core.Logic.{_⊎_, inl, inr}
 use mathlib.Core.Bool.{Bool, true, false, cond}
@@ -7,10 +7,10 @@ use mathlib.Core.List.{List, [], _∷_, _++_, append-assoc, append-nil, List·Me
 use native.Mathlib.Omega.{arith}
 use lib.Dec.{eqb}
 use lib.ListN.{length, getD}
-use borrow.Author.Tests.{eqb-true, eqb-false}
+use borrow.Author.Tests.{eqb-true}
 use Rattle.loader.specs.State.{live, ended}
 use Rattle.loader.specs.Answers.{Report, refused, continues, stopped, started, Outcome}
-use Rattle.loader.specs.Machine.{refusal, processed, refusing, step}
+use Rattle.loader.specs.Machine.{refusal, processed, step}
 use Rattle.loader.proofs.Ranges.{never, by-test}
 use Rattle.loader.proofs.Steps.{admitted, admitted-as}
 use Rattle.loader.proofs.Proved.{loader}

@@ -1,4 +1,4 @@
 pub mod Reading
 pub mod Session
-pub mod Demand3
-pub mod ShedBench
+pub mod Boot
+pub mod Checklist

@@ -1,33 +1,31 @@
--- The shed bench (specs/ShedBench.antt). A frame for another endpoint is passed over byte by byte.
-use Prim.Native.Nat.{ℕ, zero, suc, _+_, _≤_, _<_}
+-- The shed bench (specs/Checklist.antt). A frame for another endpoint is passed over byte by byte.
+use Prim.Native.Nat.{ℕ, suc, _+_, _≤_, _<_}
 use mathlib.Core.Path.{_≡_, refl, sym, ap, _∙_, subst}
-use mathlib.Core.Bool.{Bool, true, false, not, cond}
-use mathlib.Core.List.{List, [], _∷_, _++_, append-assoc}
+use mathlib.Core.Bool.{true}
+use mathlib.Core.List.{List, [], _∷_, _++_}
 use native.Mathlib.Omega.{arith}
-use lib.Dec.{eqb, ltb}
-use lib.ListN.{length, length-append}
+use lib.ListN.{length}
 use borrow.Author.Tests.{eq-eqb, le-ltb}
-use Rattle.framing.specs.Header.{Reading, good, stop, headerAt}
+use Rattle.framing.specs.Header.{good, stop, headerAt}
 use Rattle.blake2s.proofs.Proved.{hashing}
 use Rattle.protocol.proofs.Proved.{protocol}
 use Rattle.cdi.proofs.Proved.{cdi}
 use Rattle.loader.specs.State.{inRange, live, idle}
 use Rattle.loader.specs.Answers.{continues, stopped, Outcome}
-use Rattle.loader.specs.Begin.{waiting, beginning}
+use Rattle.loader.specs.Begin.{waiting}
 use Rattle.loader.specs.Machine.{refusal, gathered, plain, withIncoming, processed, step}
 use Rattle.loader.proofs.Steps.{admitted-as}
 use Rattle.loader.proofs.Ranges.{never}
 use Rattle.loader.proofs.Proved.{loader}
-use Rattle.session.specs.Reading.{forFirmware}
-use Rattle.session.specs.ShedBench.{Head, Begun, PassedOver, ShedBench}
-use Rattle.session.proofs.Gathering.{holding, Partial, Gathers, at-bad, at-part, at-passed, at-whole, gathers, length-snoc}
+use Rattle.session.specs.Checklist.{Head, Begun, PassedOver, Checklist}
+use Rattle.session.proofs.Gathering.{holding, Gathers, at-bad, at-part, at-passed, at-whole, gathers, length-snoc}
 use Rattle.session.proofs.Frames.{same-size}
 use Rattle.session.proofs.Acting.{empty-rest, at}
 use Rattle.session.proofs.Begins.{Fresh, fresh}
 use Rattle.loader.specs.declared.Incoming.{Incoming}
 use Rattle.loader.specs.declared.State.{State}
 use Rattle.loader.specs.declared.gathering.Gathered.{Gathered}
-use Rattle.loader.specs.declared.gathering.Step.the-variants.{More, Whole, Bad}
+use Rattle.loader.specs.declared.gathering.Step.the-variants.{More}
 
 -- a call that is not refused
 unrefused : (s : State) (room ram uds : ℕ) → inRange s ≡ true → live (s .progress .phase) ≡ true → 129 ≤ room → ram ≡ s .config .«ram_len» → uds ≡ 8
@@ -116,9 +114,9 @@ module _ (h : Head) (b : Begun h) where
       (halted (at (b .rec) (b .udi) (length (h .ram)) idle waiting) x k (h .room) (h .ram) (h .uds)
       (unrefused (at (b .rec) (b .udi) (length (h .ram)) idle waiting) (length (h .room)) (length (h .ram)) (length (h .uds)) ranges refl (b .room) refl (b .uds)) refl e)
 
-pub shed-bench : ShedBench
+pub checklist : Checklist
 unfolding headerAt
-shed-bench =
+checklist =
     let c = protocol .blocks in
     record {
       p1 = refl;

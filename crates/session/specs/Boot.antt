@@ -1,5 +1,5 @@
--- Demand 3, whole: when a session has started, what that start gives, what two starts with one string share, when a call is refused, and that
--- there are starts. docs/PROMISES.md reads it beside document 01. The proof is `demand3` in proofs/Proved.antt.
+-- Verified boot (document 01: demand 3): when a session has started, what that start gives, what two starts with one string share, when a call
+-- is refused, and that there are starts. docs/PROMISES.md reads it beside document 01. The proof is `verified-boot` in proofs/Proved.antt.
 use Prim.Native.Nat.{ℕ, _≤_}
 use mathlib.Core.Path.{_≡_}
 use mathlib.Core.Logic.{_↔_, _⊎_}
@@ -102,12 +102,13 @@ pub record StartOf (rec udi ram uds prog : List ℕ) (secret : Option (List ℕ)
   -- no call of it is refused
   pub none-refused : acceptedOf session ≡ allOf session
 
-pub record Demand3 : Type 0 where
+pub record VerifiedBoot : Type 0 where
   -- a head has started exactly when its accepted bytes read as those of a start
   pub exactly : (S : Session) → Started S ↔ Reads S
   -- every start gives what it should, and the reading of its bytes is one
   pub gives : (S : Session) (t : Start S) → Gives t
   pub one-reading : (S : Session) (w w′ : Reads S) → (w .opening ≡ w′ .opening) × (w .load ≡ w′ .load) × (w .blocks ≡ w′ .blocks)
+      × ((uds : List ℕ) → stringOf w uds ≡ stringOf w′ uds)
   -- two starts of one head or of two, the strings of which are equal
   pub injective : (S S′ : Session) (t : Start S) (t′ : Start S′) → stringAt t ≡ stringAt t′ → Same t t′
   -- every call of the list answers a number of refusal exactly when the table says so; refusal 1 is never answered

@@ -1,5 +1,5 @@
--- The shed bench of document 01: P1 to P13 as one list. Each is about the definitions that promises use. The proof is `shed-bench` in
--- proofs/Bench.antt.
+-- The shed bench of document 01: P1 to P13 as one list. Each is about the definitions that promises use. The proof is `checklist` in
+-- proofs/Checked.antt.
 use Prim.Native.Nat.{ℕ, _≤_}
 use mathlib.Core.Path.{_≡_}
 use mathlib.Core.Logic.{_⊎_}
@@ -41,7 +41,7 @@ PassedOver (b ∷ bs) h h′ =
     let o = step (h .state) b (h .room) (h .ram) (h .uds) in
     (o .report ≡ continues) × (o .reply ≡ 0) × PassedOver bs (record { state = o .state; room = o .room; ram = o .ram; uds = o .uds }) h′
 
-pub record ShedBench : Type 0 where
+pub record Checklist : Type 0 where
   pub p1 : headerAt 0x10 ≡ good 0 2 1
   pub p2 : headerAt 0x73 ≡ good 3 2 128
   -- endpoint 3: header and body leave state, room, RAM and words as they were
