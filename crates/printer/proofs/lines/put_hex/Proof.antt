@@ -1,0 +1,49 @@
+-- The digits of a byte behind those of the bytes before it.
+use Prim.Native.Nat.{_+_, _*_, _-_, _≤_}
+use native.Mathlib.Omega.{arith}
+use mathlib.Core.Path.{_≡_}
+use lib.ListN.{length, take}
+use lib.Seq.{take-length}
+use Rattle.printer.specs.Lines.{hexOf, Adds}
+use Rattle.printer.proofs.Texts.{adds-none, adds-next, hex-append}
+use borrow.Author.Needs.{needs}
+use Rattle.printer.proofs.lines.put_hex.Statement.{statement}
+use Rattle.printer.proofs.lines.put_hex.Tie as tie
+
+abbrev Inv-loop : tie.InvT-loop
+Inv-loop s line₀ i₀ line i = (i ≤ length s) × (line .len ≡ line₀ .len + 2 * i) × Adds line₀ (hexOf (take i s)) line
+
+abbrev μ-loop : tie.MeasureT-loop
+μ-loop s line₀ i₀ line i = length s - i
+
+loop-holds : tie.Need-loop-holds Inv-loop μ-loop
+loop-holds c = (search needs, search needs, adds-none _)
+
+loop-again : tie.Need-loop-again Inv-loop μ-loop
+loop-again c =
+    let p = c .before .before .before .loop in
+    let z = c .before .before .before .before .before in
+    let s = z .args .s .now in
+    (omega arith, omega arith, adds-next hexOf hex-append (z .args .l) (p .line) (c .put-byte .result) s (p .i) (search needs) (p .inv .2) (c .put-byte .ensures .1))
+
+returns : tie.Need-returns Inv-loop μ-loop
+returns c =
+    let p = c .before .loop in
+    let s = c .before .before .before .args .s .now in
+    let e : p .i ≡ length s = omega arith in
+    let a = rw (e, take-length) at (p .inv .2) in
+    (omega arith, a)
+
+pub put-hex-spec : {M : Type 1} → statement M
+put-hex-spec =
+    tie.close
+    (tie.spec
+    Inv-loop
+    μ-loop
+    loop-holds
+    (λ c. search needs)
+    (λ c κs. search needs)
+    (λ c. search needs)
+    (λ c. search needs)
+    loop-again
+    returns)

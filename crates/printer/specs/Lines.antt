@@ -1,0 +1,62 @@
+-- The lines of a session, in ASCII: document 01, "Session printer".
+use Prim.Native.Nat.{ℕ, zero, suc, _+_, _-_, _/_, _%_}
+use mathlib.Core.Bool.{cond}
+use mathlib.Core.List.{List, [], _∷_, _++_}
+use lib.Dec.{ltb}
+use mathlib.Core.Path.{_≡_}
+use lib.ListN.{length, replicate}
+use Rattle.loader.specs.Answers.{Report, refused, continues, stopped, started}
+use Rattle.printer.specs.declared.lines.Line.{Line}
+
+-- a digit below 16: 48 is `0` and 97 is `a`
+abbrev pub hexDigit : ℕ → ℕ
+hexDigit d = cond (ltb d 10) (48 + d) (87 + d)
+
+-- bytes in lower-case hex, two digits each
+abbrev pub hexOf : List ℕ → List ℕ
+hexOf [] = []
+hexOf (b ∷ s) = hexDigit (b / 16) ∷ hexDigit (b % 16) ∷ hexOf s
+
+-- a number below 10^k in decimal, without leading zeros
+abbrev pub decimalIn : ℕ → ℕ → List ℕ
+decimalIn zero n = []
+decimalIn (suc k) n = cond (ltb n 10) ((48 + n) ∷ []) (decimalIn k (n / 10) ++ (48 + n % 10) ∷ [])
+
+-- a number of 64 bits has at most 20 digits
+unfoldable pub decimalOf : ℕ → List ℕ
+decimalOf n = decimalIn 20 n
+
+-- `R `, the reply's bytes
+abbrev pub replyLine : List ℕ → List ℕ
+replyLine reply = 82 ∷ 32 ∷ hexOf reply ++ 10 ∷ []
+
+-- `W `, how many bytes were heard
+abbrev pub waitingLine : ℕ → List ℕ
+waitingLine n = 87 ∷ 32 ∷ decimalOf n ++ 10 ∷ []
+
+-- `S `, the program's size, the CDI
+abbrev pub startLine : ℕ → List ℕ → List ℕ
+startLine n cdi = 83 ∷ 32 ∷ decimalOf n ++ 32 ∷ hexOf cdi ++ 10 ∷ []
+
+-- `F `, the number of the stop
+abbrev pub stopLine : ℕ → List ℕ
+stopLine k = 70 ∷ 32 ∷ decimalOf k ++ 10 ∷ []
+
+-- `E ` and a number
+abbrev pub errorLine : ℕ → List ℕ
+errorLine k = 69 ∷ 32 ∷ decimalOf k ++ 10 ∷ []
+
+-- the last line, by what a call reports: none while the session goes on. Document 01 has no line for a refused call, which this printer never makes
+abbrev pub endLine : Report → List ℕ → List ℕ
+endLine (refused k) cdi = errorLine k
+endLine continues cdi = []
+endLine (stopped k) cdi = stopLine k
+endLine (started address n) cdi = startLine n cdi
+
+-- a text at the front of 261 bytes, and zeros behind it
+unfoldable pub lineOf : List ℕ → Line
+lineOf text = record { len = length text; bytes = text ++ replicate (261 - length text) 0 }
+
+-- r is l with s behind its text
+abbrev pub Adds : Line → List ℕ → Line → Type 0
+Adds l s r = (t : List ℕ) → l ≡ lineOf t → r ≡ lineOf (t ++ s)

@@ -1,0 +1,69 @@
+// What comes from standard input: record, UDS and UDI, then the heard bytes.
+ghost use mathlib.Core.Path.{_≡_};
+ghost use Prim.Native.Nat.{_+_, _≤_};
+ghost use lib.ListN.{take, drop};
+ghost use Rattle.blake2s.specs.Rfc7693.{word};
+ghost use Rattle.loader.specs.Begin.{beginningOf, beginning};
+ghost use Rattle.printer.specs.Sessions.{wordsIn};
+use libc::STDIN_FILENO;
+use loader::Begun;
+
+// A heard byte, or the end of the input; a read that fails is an end too.
+pub enum Next {
+    Byte(u8),
+    End,
+}
+
+// Reads record, UDS and UDI, and says whether they are all there.
+pub fn read_front(front: &mut [u8; 296]) -> bool {
+    io::read_full(STDIN_FILENO, front) == 296
+}
+
+// One byte and no more.
+pub fn next_byte() -> Next {
+    let mut byte = [0u8; 1];
+    if libc::read(STDIN_FILENO, &mut byte) == 1 {
+        return Next::Byte(byte[0]);
+    }
+    Next::End
+}
+
+// Begins the session of this record and UDI.
+pub fn begin(front: [u8; 296], ram_len: usize) -> Begun
+    ensures { λ r. ⌜ beginningOf r ≡ beginning (take 256 front) (drop 288 front) «ram_len» ⌝ }
+{
+    let udi = udi_of(front);
+    loader::begin(&front[..256], udi, ram_len)
+}
+
+fn udi_of(front: [u8; 296]) -> [u8; 8]
+    ensures { λ r. ⌜ r ≡ drop 288 front ⌝ }
+{
+    let mut udi = [0u8; 8];
+    bytes::copy(&front[288..], &mut udi);
+    udi
+}
+
+// The UDS as words.
+pub fn words_of(front: [u8; 296]) -> [u32; 8]
+    ensures { λ r. ⌜ r ≡ wordsIn front ⌝ }
+{
+    [
+        word_at(front, 256),
+        word_at(front, 260),
+        word_at(front, 264),
+        word_at(front, 268),
+        word_at(front, 272),
+        word_at(front, 276),
+        word_at(front, 280),
+        word_at(front, 284),
+    ]
+}
+
+// The word of the four bytes from a place on, lowest first.
+fn word_at(front: [u8; 296], at: usize) -> u32
+    requires { ⌜ at + 4 ≤ 296 ⌝ }
+    ensures { λ r. ⌜ r ≡ word front at ⌝ }
+{
+    endian::number(front[at], front[at + 1], front[at + 2], front[at + 3])
+}
