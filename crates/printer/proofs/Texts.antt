@@ -6,7 +6,8 @@ use mathlib.Core.List.{List, [], _∷_, _++_, append-assoc, append-nil}
 use lib.ListN.{length, set, getD, take, replicate, length-append}
 use native.Mathlib.Numerals.{add-one}
 use lib.Seq.{set-append-seam, take-suc}
-use Rattle.printer.specs.Lines.{hexDigit, hexOf, lineOf, Adds}
+use Rattle.printer.specs.Lines.{hexDigit, hexOf, lineOf}
+use Rattle.printer.specs.Steps.{Adds}
 use Rattle.printer.specs.declared.lines.Line.{Line}
 
 -- a line with the byte b at its end

@@ -3,7 +3,6 @@ use Prim.Native.Nat.{ℕ, zero, suc, _+_, _-_, _/_, _%_}
 use mathlib.Core.Bool.{cond}
 use mathlib.Core.List.{List, [], _∷_, _++_}
 use lib.Dec.{ltb}
-use mathlib.Core.Path.{_≡_}
 use lib.ListN.{length, replicate}
 use Rattle.loader.specs.Answers.{Report, refused, continues, stopped, started}
 use Rattle.printer.specs.declared.lines.Line.{Line}
@@ -56,7 +55,3 @@ endLine (started address n) cdi = startLine n cdi
 -- a text at the front of 261 bytes, and zeros behind it
 unfoldable pub lineOf : List ℕ → Line
 lineOf text = record { len = length text; bytes = text ++ replicate (261 - length text) 0 }
-
--- r is l with s behind its text
-abbrev pub Adds : Line → List ℕ → Line → Type 0
-Adds l s r = (t : List ℕ) → l ≡ lineOf t → r ≡ lineOf (t ++ s)

@@ -4,7 +4,8 @@ ghost use mathlib.Core.List.{List, [], _∷_, _++_};
 ghost use Prim.Native.Nat.{ℕ, _+_, _*_, _≤_, _<_};
 ghost use lib.ListN.{length, take};
 ghost use Rattle.loader.specs.Answers.{stopNumber, reportOf};
-ghost use Rattle.printer.specs.Lines.{hexDigit, hexOf, decimalOf, replyLine, waitingLine, startLine, stopLine, errorLine, endLine, lineOf, Adds};
+ghost use Rattle.printer.specs.Lines.{hexDigit, hexOf, decimalOf, replyLine, waitingLine, startLine, stopLine, errorLine, endLine, lineOf};
+ghost use Rattle.printer.specs.Steps.{Adds};
 use loader::Answer;
 use loader::Stop;
 

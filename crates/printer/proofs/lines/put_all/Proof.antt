@@ -5,7 +5,7 @@ use mathlib.Core.Path.{_≡_, refl}
 use mathlib.Core.List.{List}
 use lib.ListN.{length, take}
 use lib.Seq.{take-length}
-use Rattle.printer.specs.Lines.{Adds}
+use Rattle.printer.specs.Steps.{Adds}
 use Rattle.printer.proofs.Texts.{adds-none, adds-next}
 use borrow.Author.Needs.{needs}
 use Rattle.printer.proofs.lines.put_all.Statement.{statement}

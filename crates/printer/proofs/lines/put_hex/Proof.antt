@@ -4,7 +4,8 @@ use native.Mathlib.Omega.{arith}
 use mathlib.Core.Path.{_≡_}
 use lib.ListN.{length, take}
 use lib.Seq.{take-length}
-use Rattle.printer.specs.Lines.{hexOf, Adds}
+use Rattle.printer.specs.Lines.{hexOf}
+use Rattle.printer.specs.Steps.{Adds}
 use Rattle.printer.proofs.Texts.{adds-none, adds-next, hex-append}
 use borrow.Author.Needs.{needs}
 use Rattle.printer.proofs.lines.put_hex.Statement.{statement}
