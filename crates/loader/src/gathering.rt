@@ -4,7 +4,7 @@ ghost use mathlib.Core.Bool.{true};
 ghost use Prim.Native.Nat.{_≤_};
 ghost use Rattle.framing.specs.Header.{headerAt};
 ghost use Rattle.loader.specs.State.{incomingOk};
-ghost use Rattle.loader.specs.Machine.{opened, withByte, inBody, gathered};
+ghost use Rattle.loader.specs.Machine.{opened, inBody, gathered};
 use super::Incoming;
 use framing::Header;
 
@@ -48,40 +48,29 @@ fn open(i: Incoming, b: u8) -> Gathered
     }
 }
 
-// A byte of a body: it is kept where the frame is for the firmware.
-fn keep(i: Incoming, endpoint: u8, b: u8) -> Incoming
-    requires { ⌜ (1 ≤ i .got) × (i .got ≤ 128) ⌝ }
-    ensures { λ r. ⌜ r ≡ withByte i endpoint b ⌝ }
-{
-    let mut next = i;
-    let at = (i.got - 1) as usize;
-    next.got = i.got + 1;
-    if endpoint == 2 {
-        next.body[at] = b;
-    }
-    next
-}
-
-// A byte of the body that a header announced.
+// A byte of the body that a header announced: it is kept where the frame is for the firmware.
 fn continue_body(i: Incoming, endpoint: u8, len: u8, b: u8) -> Gathered
     requires { ⌜ (1 ≤ i .got) × (i .got ≤ 128) ⌝ }
     ensures { λ r. ⌜ r ≡ inBody i endpoint len b ⌝ }
 {
-    if i.got < len {
-        return Gathered {
-            step: Step::More,
-            incoming: keep(i, endpoint, b),
-        };
-    }
-    if endpoint != 2 {
-        return Gathered {
-            step: Step::More,
-            incoming: super::states::idle(),
-        };
+    let mut step = Step::More;
+    let mut header = i.header;
+    let mut got = i.got + 1;
+    let mut body = i.body;
+    if endpoint == 2 {
+        let at = (i.got - 1) as usize;
+        body[at] = b;
+        if len <= i.got {
+            step = Step::Whole;
+        }
+    } else if len <= i.got {
+        header = 0;
+        got = 0;
+        body = [0; 128];
     }
     Gathered {
-        step: Step::Whole,
-        incoming: keep(i, endpoint, b),
+        step,
+        incoming: Incoming { header, got, body },
     }
 }
 

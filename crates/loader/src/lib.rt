@@ -120,10 +120,10 @@ pub struct Received {
     pub answer: Answer,
     // How many bytes at the front of the reply room are a reply: 0 for none.
     pub reply: usize,
-    pub state: State,
     // The CDI and the program's digest at a start; otherwise zeros.
     pub cdi: [u8; 32],
     pub digest: [u8; 32],
+    pub state: State,
 }
 
 // The number that document 01 gives a refusal.
@@ -221,11 +221,10 @@ fn process(s: State, byte: u8, room: &mut [u8], ram: &mut [u8], uds: &mut [u32])
 {
     let g = gathering::gather(s.incoming, byte);
     let step = g.step;
-    let next = with_incoming(s, g.incoming);
     match step {
-        gathering::Step::More => acting::plain(Answer::Continue, 0, next),
-        gathering::Step::Bad => acting::stop(Stop::HeaderBit, next),
-        gathering::Step::Whole => acting::act(next, room, ram, uds),
+        gathering::Step::More => acting::plain(Answer::Continue, 0, with_incoming(s, g.incoming)),
+        gathering::Step::Bad => acting::stop(Stop::HeaderBit, s),
+        gathering::Step::Whole => acting::act(with_incoming(s, g.incoming), room, ram, uds),
     }
 }
 
