@@ -4,7 +4,7 @@ use mathlib.Core.Path.{_≡_, refl, sym, ap, _∙_, subst}
 use mathlib.Core.Logic.{_⊎_, inl, inr, _↔_}
 use mathlib.Core.Bool.{Bool, true, false, not, cond, _||_}
 use mathlib.Core.Option.{none, some}
-use mathlib.Core.List.{List, [], _∷_, _++_, append-nil, tail-eq-of-cons-eq, head-eq-of-cons-eq, List·Memᴰ, List·Memᴰ·not-nil, List·Memᴰ·cases-cons}
+use mathlib.Core.List.{List, [], _∷_, _++_, append-nil, tail-eq-of-cons-eq, head-eq-of-cons-eq, List·Memᴰ, List·Memᴰ·head, List·Memᴰ·tail, List·Memᴰ·not-nil, List·Memᴰ·cases-cons}
 use native.Mathlib.Omega.{arith}
 use lib.Dec.{eqb, ltb}
 use lib.ListN.{length, getD, length-append}
@@ -22,7 +22,7 @@ use Rattle.loader.specs.Begin.{waiting, beginning}
 use Rattle.loader.proofs.Bytes.{bytes-length}
 use Rattle.loader.proofs.Proved.{loader}
 use Rattle.session.specs.Reading.{All, Good, joined, own, digestOf, Allowed, chained, measuredId, Starting}
-use Rattle.session.specs.Session.{Words, Entry, isAccepted, bytesOf, Session, allOf, acceptedOf, hasEnded, refusalIn}
+use Rattle.session.specs.Session.{Words, Entry, Among, isAccepted, bytesOf, Session, allOf, acceptedOf, hasEnded, refusalIn}
 use Rattle.session.specs.Boot.{StartedAt, Started, Reads, used, Start, stringAt, Gives, Same, StartOf, VerifiedBoot}
 use Rattle.session.proofs.Frames.{reads-on}
 use Rattle.session.proofs.Shapes.{one-shape}
@@ -34,6 +34,23 @@ use Rattle.session.proofs.Existence as made
 use Rattle.session.proofs.Feeding.{feed, one-ram, same-uds, Fed, fed}
 use Rattle.session.proofs.Strings.{same-words, digest-length, id-length, uss-length, same-secret}
 use Rattle.loader.specs.declared.State.{State}
+
+-- ---- one of a list of calls
+
+mem-at : (before after : List Entry) (e : Entry) → List·Memᴰ e (before ++ e ∷ after)
+mem-at [] after e = List·Memᴰ·head refl
+mem-at (x ∷ before) after e = List·Memᴰ·tail (mem-at before after e)
+
+mem-of : (l : List Entry) (e : Entry) → Among e l → List·Memᴰ e l
+mem-of l e i = subst (List·Memᴰ e) (sym (i .place)) (mem-at (i .before) (i .after) e)
+
+among-of : (l : List Entry) (e : Entry) → List·Memᴰ e l → Among e l
+among-of [] e i = absurd (List·Memᴰ·not-nil i)
+among-of (x ∷ l) e i = go (List·Memᴰ·cases-cons i) (λ j. among-of l e j)
+  where
+    go : (e ≡ x) ⊎ List·Memᴰ e l → (List·Memᴰ e l → Among e l) → Among e (x ∷ l)
+    go (inl q) f = record { before = []; after = l; place = ap (λ (y : Entry). y ∷ l) (sym q) }
+    go (inr j) f = let s = f j in record { before = x ∷ s .before; after = s .after; place = ap (λ (y : List Entry). x ∷ y) (s .place) }
 
 -- ---- one reading
 
@@ -90,12 +107,12 @@ module _ (S : Session) where
   walked = walk (S .rec) (S .udi) (S .ramLen) (S .calls) [] _ (S .ram) (first-live (S .rec) (S .udi) (S .ramLen) (S .ram) begins) (S .one-ram)
 
   begun : (e : Entry) → StartedAt S e → Begun (S .rec) (S .udi) (S .ramLen) (bytesOf (acceptedOf S)) e
-  begun e t = walked .only e (t .among) (record { address = t .address; size = t .size; answers = t .answers })
+  begun e t = walked .only e (mem-of (acceptedOf S) e (t .among)) (record { address = t .address; size = t .size; answers = t .answers })
 
   pub exactly : Started S ↔ Reads S
   exactly = (
     λ t. begun (t .0) (t .1) .reading,
-    λ w. let t = walked .whenever w in (t .0, record { among = t .1; address = t .2 .address; size = t .2 .size; answers = t .2 .answers }),
+    λ w. let t = walked .whenever w in (t .0, record { among = among-of (acceptedOf S) (t .0) (t .1); address = t .2 .address; size = t .2 .size; answers = t .2 .answers }),
   )
 
   module _ (t : Start S) where
@@ -141,11 +158,11 @@ module _ (S : Session) where
           cleared = l .cleared;
         }
 
-  pub table : (before after : List Entry) (e : Entry) → allOf S ≡ before ++ e ∷ after
-      → (k : ℕ) → (e .out .report ≡ refused k) ↔ ((k ≡ refusalIn (hasEnded before) (S .ramLen) (e .call)) × (k ≡ 0 → ⊥))
-  table before after e q k =
-      subst (λ (o : Bool). (e .out .report ≡ refused k) ↔ ((k ≡ refusalIn o (S .ramLen) (e .call)) × (k ≡ 0 → ⊥))) (or-false (hasEnded before))
-      (table-from (S .ramLen) (S .calls) (beginning (S .rec) (S .udi) (S .ramLen) .state) false (first-runs (S .rec) (S .udi) (S .ramLen) begins) before after e q k)
+  pub table : (e : Entry) (i : Among e (allOf S)) (k : ℕ)
+      → (e .out .report ≡ refused k) ↔ ((k ≡ refusalIn (hasEnded (i .before)) (S .ramLen) (e .call)) × (k ≡ 0 → ⊥))
+  table e i k =
+      subst (λ (o : Bool). (e .out .report ≡ refused k) ↔ ((k ≡ refusalIn o (S .ramLen) (e .call)) × (k ≡ 0 → ⊥))) (or-false (hasEnded (i .before)))
+      (table-from (S .ramLen) (S .calls) (beginning (S .rec) (S .udi) (S .ramLen) .state) false (first-runs (S .rec) (S .udi) (S .ramLen) begins) (i .before) (i .after) e (i .place) k)
     where
       or-false : (x : Bool) → x || false ≡ x
       or-false true = refl
@@ -164,23 +181,9 @@ injective S S′ t t′ e =
 
 -- ---- refusal 1
 
-pub record Split (l : List Entry) (e : Entry) : Type 0 where
-  pub before : List Entry
-  pub after : List Entry
-  pub whole : l ≡ before ++ e ∷ after
-
-split : (l : List Entry) (e : Entry) → List·Memᴰ e l → Split l e
-split [] e i = absurd (List·Memᴰ·not-nil i)
-split (x ∷ l) e i = go (List·Memᴰ·cases-cons i) (λ j. split l e j)
-  where
-    go : (e ≡ x) ⊎ List·Memᴰ e l → (List·Memᴰ e l → Split l e) → Split (x ∷ l) e
-    go (inl q) f = record { before = []; after = l; whole = ap (λ (y : Entry). y ∷ l) (sym q) }
-    go (inr j) f = let s = f j in record { before = x ∷ s .before; after = s .after; whole = ap (λ (y : List Entry). x ∷ y) (s .whole) }
-
-never-one : (S : Session) (e : Entry) → List·Memᴰ e (allOf S) → e .out .report ≡ refused 1 → ⊥
+never-one : (S : Session) (e : Entry) → Among e (allOf S) → e .out .report ≡ refused 1 → ⊥
 never-one S e i q =
-    let s = split (allOf S) e i in
-    go (hasEnded (s .before)) (ltb (length (e .call .room)) 129) (eqb (length (e .call .ram)) (S .ramLen)) (eqb (length (e .call .uds)) 8) (table S (s .before) (s .after) e (s .whole) 1 .0 q .0)
+    go (hasEnded (i .before)) (ltb (length (e .call .room)) 129) (eqb (length (e .call .ram)) (S .ramLen)) (eqb (length (e .call .uds)) 8) (table S e i 1 .0 q .0)
   where
     go : (a b c d : Bool) → _≡_ {A = ℕ} 1 (cond a 2 (cond b 3 (cond (not c) 4 (cond (not d) 5 0)))) → ⊥
     go true b c d z = omega arith
@@ -242,7 +245,7 @@ module _ (rec udi ram uds prog : List ℕ) (flag : Bool) (uss : List ℕ) (accep
         same-udi = refl;
         same-length = refl;
         same-ram = refl;
-        same-uds = same-uds uds typed sent (beginning rec udi (length ram) .state) ram (t .0) (subst (List·Memᴰ (t .0)) (all-fed .none-refused) (t .1 .among));
+        same-uds = same-uds uds typed sent (beginning rec udi (length ram) .state) ram (t .0) (subst (List·Memᴰ (t .0)) (all-fed .none-refused) (mem-of (acceptedOf session) (t .0) (t .1 .among)));
         same-program = made.reading-program prog least small flag uss secret rec (length ram) fits allows (bytesOf (acceptedOf session)) all-heard;
         same-secret = secret-of (loadIn (reading .load)) flag (made.reading-load prog least small flag uss secret rec (length ram) fits allows (bytesOf (acceptedOf session)) all-heard);
         none-refused = all-fed .none-refused;

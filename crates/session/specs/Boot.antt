@@ -5,7 +5,7 @@ use mathlib.Core.Path.{_≡_}
 use mathlib.Core.Logic.{_↔_, _⊎_}
 use mathlib.Core.Bool.{Bool, true, cond}
 use mathlib.Core.Option.{Option, none, some}
-use mathlib.Core.List.{List, [], _∷_, _++_, List·Memᴰ}
+use mathlib.Core.List.{List, []}
 use lib.ListN.{length, getD, take}
 use Rattle.blake2s.specs.Rfc7693.{blake2s, bytes}
 use Rattle.cdi.specs.Cdi.{measurementOf, cdiString}
@@ -17,11 +17,11 @@ use Rattle.loader.specs.Answers.{refused, started}
 use Rattle.loader.specs.Begin.{beginning}
 use Rattle.loader.specs.Machine.{putIn}
 use Rattle.session.specs.Reading.{sizeOf, programOf, digestOf, Allowed, chained, measuredId, Starting}
-use Rattle.session.specs.Session.{Words, Entry, isAccepted, bytesOf, Session, allOf, acceptedOf, hasEnded, refusalIn}
+use Rattle.session.specs.Session.{Words, Entry, Among, isAccepted, bytesOf, Session, allOf, acceptedOf, hasEnded, refusalIn}
 
 -- e is an accepted call of the session that answered a start
 pub record StartedAt (S : Session) (e : Entry) : Type 0 where
-  pub among : List·Memᴰ e (acceptedOf S)
+  pub among : Among e (acceptedOf S)
   pub address : ℕ
   pub size : ℕ
   pub answers : e .out .report ≡ started address size
@@ -112,9 +112,9 @@ pub record VerifiedBoot : Type 0 where
   -- two starts of one head or of two, the strings of which are equal
   pub injective : (S S′ : Session) (t : Start S) (t′ : Start S′) → stringAt t ≡ stringAt t′ → Same t t′
   -- every call of the list answers a number of refusal exactly when the table says so; refusal 1 is never answered
-  pub table : (S : Session) (before after : List Entry) (e : Entry) → allOf S ≡ before ++ e ∷ after
-      → (k : ℕ) → (e .out .report ≡ refused k) ↔ ((k ≡ refusalIn (hasEnded before) (S .ramLen) (e .call)) × (k ≡ 0 → ⊥))
-  pub never-one : (S : Session) (e : Entry) → List·Memᴰ e (allOf S) → e .out .report ≡ refused 1 → ⊥
+  pub table : (S : Session) (e : Entry) (i : Among e (allOf S)) (k : ℕ)
+      → (e .out .report ≡ refused k) ↔ ((k ≡ refusalIn (hasEnded (i .before)) (S .ramLen) (e .call)) × (k ≡ 0 → ⊥))
+  pub never-one : (S : Session) (e : Entry) → Among e (allOf S) → e .out .report ≡ refused 1 → ⊥
   -- every program of 1 byte to the RAM's length starts, if the record allows it, with any user secret or none, whatever RAM and UDS hold
   pub exists : (rec udi ram uds prog : List ℕ) (flag : Bool) (uss : List ℕ)
       → isAccepted (beginning rec udi (length ram) .report) ≡ true → (numberIn typeField rec ≡ 4) ⊎ (numberIn typeField rec ≡ 5)

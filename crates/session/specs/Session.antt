@@ -4,7 +4,7 @@ use Prim.Native.Nat.{ℕ, _<_}
 use mathlib.Core.Path.{_≡_}
 use mathlib.Core.Logic.{_⊎_}
 use mathlib.Core.Bool.{Bool, true, false, not, cond, _||_}
-use mathlib.Core.List.{List, [], _∷_}
+use mathlib.Core.List.{List, [], _∷_, _++_}
 use lib.Dec.{eqb, ltb}
 use lib.ListN.{length}
 use Rattle.record.specs.Record.{typeField, numberIn}
@@ -33,6 +33,12 @@ pub record Entry : Type 0 where
 
 abbrev pub entryOf : State → Call → Entry
 entryOf s c = record { call = c; out = step s (c .byte) (c .room) (c .ram) (c .uds) }
+
+-- e is one of these calls
+pub record Among (e : Entry) (es : List Entry) : Type 0 where
+  pub before : List Entry
+  pub after : List Entry
+  pub place : es ≡ before ++ e ∷ after
 
 -- each call gets the state that the one before it handed back
 abbrev pub log : State → List Call → List Entry
