@@ -9,7 +9,7 @@ from copy import deepcopy
 from itertools import chain
 
 import stored
-from head import ADDRESS, ZEROS, Answer, Frame, Head, blake2s
+from head import ADDRESS, ZEROS, Answer, Frame, Head, begin, blake2s
 
 # What every scenario has in common.
 RAM = 300
@@ -227,6 +227,25 @@ def stops():
     yield from in_load(LOADING_STOPS[2])
 
 
+# ---- begin
+
+
+def begin_with(record, ram=RAM):
+    answer, head = begin(record, b"\xd0" * 8, ram)
+    yield {"W": "waiting", "S": "started"}.get(answer.kind, f"{answer.kind} {answer.number}")
+    yield from call(head)
+
+
+def begins():
+    record = b"\4" + bytes(256)
+    yield "# begin: lengths"
+    for n, ram in [(0, RAM), (255, RAM), (257, RAM), (256, 0), (256, 131073), (255, 0), (256, 1), (256, 131072), (256, RAM)]:
+        yield from begin_with(record[:n], ram)
+    yield "# begin: types"
+    for kind in [0, 1, 2, 3, 4, 5, 6, 2**32 - 1, 0x104, 0x10005, 0x1000000]:
+        yield from begin_with(kind.to_bytes(4, "little") + bytes(252))
+
+
 # ---- refused calls
 
 
@@ -322,4 +341,4 @@ def between_bytes():
 
 
 if __name__ == "__main__":
-    sys.exit(stored.main(__doc__, chain(loads(), digests(), stops(), refusals())))
+    sys.exit(stored.main(__doc__, chain(begins(), loads(), digests(), stops(), refusals())))

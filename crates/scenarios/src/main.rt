@@ -1,5 +1,6 @@
-// Plays the server to heads made by hand, and prints what the technician would see. tests/scenarios.py makes the same text with code of
+// Begins heads, plays the server to others made by hand, and prints what the technician would see. tests/scenarios.py makes the same text with code of
 // its own.
+mod begins;
 mod bodies;
 mod cable;
 mod digests;
@@ -11,6 +12,8 @@ mod states;
 mod stops;
 
 fn main() {
+    begins::lengths();
+    begins::types();
     loads::query();
     loads::client_session();
     loads::unfinished();

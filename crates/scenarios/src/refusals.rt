@@ -10,7 +10,7 @@ use loader::State;
 ghost use Prim.Native.Nat.{_≤_};
 
 // A call with the fronts of a room, a RAM and the words lent. What is not lent must stay too.
-fn call(s: State, room_len: usize, ram_len: usize, words_len: usize) -> State
+pub fn call(s: State, room_len: usize, ram_len: usize, words_len: usize) -> State
     requires { ⌜ («room_len» ≤ 160) × («ram_len» ≤ 301) × («words_len» ≤ 9) ⌝ }
 {
     let mut room = [0xeeu8; 160];

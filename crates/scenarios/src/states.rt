@@ -1,4 +1,4 @@
-// States made by hand, since the loader has no begin yet.
+// States made by hand, so that a scenario can begin where it likes, also out of range.
 use super::bodies;
 use loader::Config;
 use loader::Incoming;
@@ -41,7 +41,7 @@ pub fn progress(phase: Phase, size: u32, block: u32) -> Progress {
     }
 }
 
-// The state that a begin would give.
+// The state that begin gives.
 pub fn waiting(config: Config) -> State {
     State {
         incoming: idle(),
