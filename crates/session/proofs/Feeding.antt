@@ -12,7 +12,7 @@ use Rattle.loader.specs.Answers.{Outcome}
 use Rattle.loader.specs.Machine.{processed, step}
 use Rattle.loader.proofs.Ranges.{never, by-test}
 use Rattle.session.specs.Reading.{Starting}
-use Rattle.session.specs.Session.{Words, Call, Entry, entryOf, log, isAccepted, accepted, bytesOf, OneRam, isEnd}
+use Rattle.session.specs.Session.{Words, Call, Entry, entryOf, log, isAccepted, accepted, receivedBytes, OneRam, isEnd}
 use Rattle.session.proofs.Calls.{Live, After, goes-on, has-started, has-stopped, after}
 use Rattle.session.proofs.Walk.{numberOf, call-taken, call-is}
 use Rattle.session.proofs.Begins.{Runs, number-is, next-runs}
@@ -60,7 +60,7 @@ module _ (uds : List ℕ) (typed : Words uds) where
 
     pub record Fed (bs : List ℕ) (es : List Entry) : Type 0 where
       pub none-refused : accepted es ≡ es
-      pub all-bytes : bytesOf es ≡ bs
+      pub all-bytes : receivedBytes es ≡ bs
 
     pub fed : (bs before : List ℕ) (s : State) (r : List ℕ) → Live rec udi m before s r → Runs m s false → length r ≡ m → Starting rec m (before ++ bs)
         → Fed bs (log s (feed bs s r))

@@ -22,7 +22,7 @@ use Rattle.loader.specs.Begin.{waiting, beginning}
 use Rattle.loader.proofs.Bytes.{bytes-length}
 use Rattle.loader.proofs.Proved.{loader}
 use Rattle.session.specs.Reading.{All, Good, joined, own, digestOf, Allowed, chained, measuredId, Starting}
-use Rattle.session.specs.Session.{Words, Entry, Among, isAccepted, bytesOf, Session, allOf, acceptedOf, hasEnded, refusalIn}
+use Rattle.session.specs.Session.{Words, Entry, Among, isAccepted, receivedBytes, Session, allOf, acceptedOf, hasEnded, refusalIn}
 use Rattle.session.specs.Boot.{StartedAt, Started, Reads, used, Start, stringAt, Gives, Same, StartOf, VerifiedBoot}
 use Rattle.session.proofs.Frames.{reads-on}
 use Rattle.session.proofs.Shapes.{one-shape}
@@ -106,7 +106,7 @@ module _ (S : Session) where
   walked : Walk (S .rec) (S .udi) (S .ramLen) [] (acceptedOf S)
   walked = walk (S .rec) (S .udi) (S .ramLen) (S .calls) [] _ (S .ram) (first-live (S .rec) (S .udi) (S .ramLen) (S .ram) begins) (S .one-ram)
 
-  begun : (e : Entry) → StartedAt S e → Begun (S .rec) (S .udi) (S .ramLen) (bytesOf (acceptedOf S)) e
+  begun : (e : Entry) → StartedAt S e → Begun (S .rec) (S .udi) (S .ramLen) (receivedBytes (acceptedOf S)) e
   begun e t = walked .only e (mem-of (acceptedOf S) e (t .among)) (record { address = t .address; size = t .size; answers = t .answers })
 
   pub exactly : Started S ↔ Reads S
@@ -119,8 +119,8 @@ module _ (S : Session) where
     leaves : Leaves (S .rec) (S .udi) (S .ramLen) (t .reading .load) (t .reading .blocks) (getD (t .reading .last) 0 0) (t .entry .call .room) (t .entry .call .uds) (t .entry .out)
     leaves =
         let b = begun (t .entry) (t .started-at) in
-        let o = one-reading (S .rec) (S .ramLen) (bytesOf (acceptedOf S)) (b .reading) (t .reading) in
-        let l = one-last (S .rec) (S .ramLen) (bytesOf (acceptedOf S)) (b .reading) (t .reading) in
+        let o = one-reading (S .rec) (S .ramLen) (receivedBytes (acceptedOf S)) (b .reading) (t .reading) in
+        let l = one-last (S .rec) (S .ramLen) (receivedBytes (acceptedOf S)) (b .reading) (t .reading) in
         subst (λ (f : List ℕ). Leaves (S .rec) (S .udi) (S .ramLen) (t .reading .load) (t .reading .blocks) (getD f 0 0) (t .entry .call .room) (t .entry .call .uds) (t .entry .out)) l
         (subst (λ (f : List (List ℕ)). Leaves (S .rec) (S .udi) (S .ramLen) (t .reading .load) f (getD (b .reading .last) 0 0) (t .entry .call .room) (t .entry .call .uds) (t .entry .out)) (o .2)
         (subst (λ (f : List ℕ). Leaves (S .rec) (S .udi) (S .ramLen) f (b .reading .blocks) (getD (b .reading .last) 0 0) (t .entry .call .room) (t .entry .call .uds) (t .entry .out)) (o .1)
@@ -224,11 +224,11 @@ module _ (rec udi ram uds prog : List ℕ) (flag : Bool) (uss : List ℕ) (accep
       fed uds typed rec udi (length ram) eight sent [] (beginning rec udi (length ram) .state) ram (first-live rec udi (length ram) ram fresh-head)
       (first-runs rec udi (length ram) fresh-head) refl (made.reading prog least small flag uss secret rec (length ram) fits allows sent refl)
 
-  all-heard : bytesOf (acceptedOf session) ≡ sent
-  all-heard = ap bytesOf (all-fed .none-refused) ∙ all-fed .all-bytes
+  all-heard : receivedBytes (acceptedOf session) ≡ sent
+  all-heard = ap receivedBytes (all-fed .none-refused) ∙ all-fed .all-bytes
 
   abbrev reading : Reads session
-  reading = made.reading prog least small flag uss secret rec (length ram) fits allows (bytesOf (acceptedOf session)) all-heard
+  reading = made.reading prog least small flag uss secret rec (length ram) fits allows (receivedBytes (acceptedOf session)) all-heard
 
   -- the flag of the load says whether there is a user secret
   secret-of : (l : Load) (v : Bool) → l ≡ loadWith (length prog) (cond v 1 0) uss → cond (usesUss l) (some (l .uss)) none ≡ cond v (some uss) none
@@ -246,8 +246,8 @@ module _ (rec udi ram uds prog : List ℕ) (flag : Bool) (uss : List ℕ) (accep
         same-length = refl;
         same-ram = refl;
         same-uds = same-uds uds typed sent (beginning rec udi (length ram) .state) ram (t .0) (subst (List·Memᴰ (t .0)) (all-fed .none-refused) (mem-of (acceptedOf session) (t .0) (t .1 .among)));
-        same-program = made.reading-program prog least small flag uss secret rec (length ram) fits allows (bytesOf (acceptedOf session)) all-heard;
-        same-secret = secret-of (loadIn (reading .load)) flag (made.reading-load prog least small flag uss secret rec (length ram) fits allows (bytesOf (acceptedOf session)) all-heard);
+        same-program = made.reading-program prog least small flag uss secret rec (length ram) fits allows (receivedBytes (acceptedOf session)) all-heard;
+        same-secret = secret-of (loadIn (reading .load)) flag (made.reading-load prog least small flag uss secret rec (length ram) fits allows (receivedBytes (acceptedOf session)) all-heard);
         none-refused = all-fed .none-refused;
       }
 
@@ -257,7 +257,7 @@ verified-boot =
       exactly = exactly;
       gives = gives;
       one-reading = λ S w w′.
-          let o = one-reading (S .rec) (S .ramLen) (bytesOf (acceptedOf S)) w w′ in
+          let o = one-reading (S .rec) (S .ramLen) (receivedBytes (acceptedOf S)) w w′ in
           (o .0, o .1, o .2, λ uds. one-string (S .rec) uds (w .load) (w′ .load) (w .blocks) (w′ .blocks) (o .1) (o .2));
       injective = injective;
       table = table;

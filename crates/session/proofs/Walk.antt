@@ -15,7 +15,7 @@ use Rattle.loader.proofs.Ranges.{never, by-test}
 use Rattle.loader.proofs.Steps.{admitted, admitted-as}
 use Rattle.loader.proofs.Proved.{loader}
 use Rattle.session.specs.Reading.{Starting}
-use Rattle.session.specs.Session.{Call, Entry, entryOf, log, isAccepted, accepted, bytesOf, OneRam}
+use Rattle.session.specs.Session.{Call, Entry, entryOf, log, isAccepted, accepted, receivedBytes, OneRam}
 use Rattle.session.proofs.Acting.{Leaves}
 use Rattle.session.proofs.Calls.{Live, not-live, After, goes-on, has-started, has-stopped, after}
 use Rattle.loader.specs.declared.Phase.the-variants as phase
@@ -71,8 +71,8 @@ module _ (rec udi : List ℕ) (m : ℕ) where
     pub answers : e .out .report ≡ started address size
 
   pub record Walk (bs : List ℕ) (es : List Entry) : Type 0 where
-    pub only : (e : Entry) → List·Memᴰ e es → Answered e → Begun (bs ++ bytesOf es) e
-    pub whenever : Starting rec m (bs ++ bytesOf es) → (e : Entry) × List·Memᴰ e es × Answered e
+    pub only : (e : Entry) → List·Memᴰ e es → Answered e → Begun (bs ++ receivedBytes es) e
+    pub whenever : Starting rec m (bs ++ receivedBytes es) → (e : Entry) × List·Memᴰ e es × Answered e
 
   -- what the calls after this one lead to
   abbrev Rest : List Call → Type 0
@@ -85,13 +85,13 @@ module _ (rec udi : List ℕ) (m : ℕ) where
     abbrev later : Outcome → List Entry
     later o = accepted (log (o .state) cs)
 
-    one-byte : (o : Outcome) → later o ≡ [] → bs ++ bytesOf (entry o ∷ later o) ≡ bs ++ c .byte ∷ []
-    one-byte o n = ap (λ (x : List Entry). bs ++ c .byte ∷ bytesOf x) n
+    one-byte : (o : Outcome) → later o ≡ [] → bs ++ receivedBytes (entry o ∷ later o) ≡ bs ++ c .byte ∷ []
+    one-byte o n = ap (λ (x : List Entry). bs ++ c .byte ∷ receivedBytes x) n
 
     after-walk : (o : Outcome) → After rec udi m c (bs ++ c .byte ∷ []) o → OneRam (o .ram) (later o) → Walk bs (entry o ∷ later o)
     after-walk o (goes-on e v l) one =
         let w = rest (bs ++ c .byte ∷ []) (o .state) (o .ram) v one in
-        let p = append-assoc bs (c .byte ∷ []) (bytesOf (later o)) in
+        let p = append-assoc bs (c .byte ∷ []) (receivedBytes (later o)) in
         record {
           only = λ x i a. only x (List·Memᴰ·cases-cons i) a (λ j. subst (λ (y : List ℕ). Begun y x) p (w .only x j a));
           whenever = λ d.
@@ -99,24 +99,24 @@ module _ (rec udi : List ℕ) (m : ℕ) where
               (t .0, List·Memᴰ·tail (t .1), t .2);
         }
       where
-        only : (x : Entry) → (x ≡ entry o) ⊎ List·Memᴰ x (later o) → Answered x → (List·Memᴰ x (later o) → Begun (bs ++ bytesOf (entry o ∷ later o)) x)
-            → Begun (bs ++ bytesOf (entry o ∷ later o)) x
+        only : (x : Entry) → (x ≡ entry o) ⊎ List·Memᴰ x (later o) → Answered x → (List·Memᴰ x (later o) → Begun (bs ++ receivedBytes (entry o ∷ later o)) x)
+            → Begun (bs ++ receivedBytes (entry o ∷ later o)) x
         only x (inl q) a f =
             let r : started (a .address) (a .size) ≡ continues = sym (a .answers) ∙ ap (λ (y : Entry). y .out .report) q ∙ e in
             absurd (let z : _≡_ {A = ℕ} 0 1 = cc in omega arith)
         only x (inr j) a f = f j
     after-walk o (has-started w l z) one =
         let n = nothing (o .state) cs (ap (λ (s : State). live (s .progress .phase)) (l .state) ∙ ended-start m) in
-        let b : Begun (bs ++ bytesOf (entry o ∷ later o)) (entry o) =
+        let b : Begun (bs ++ receivedBytes (entry o ∷ later o)) (entry o) =
         subst (λ (y : List ℕ). Begun y (entry o)) (sym (one-byte o n)) (record { reading = w; leaves = l; eight = eight }) in
         record {
           only = λ x i a. only n b x (List·Memᴰ·cases-cons i);
           whenever = λ d. (entry o, List·Memᴰ·head refl, record { address = _; size = _; answers = l .report });
         }
       where
-        only : later o ≡ [] → Begun (bs ++ bytesOf (entry o ∷ later o)) (entry o) → (x : Entry) → (x ≡ entry o) ⊎ List·Memᴰ x (later o)
-            → Begun (bs ++ bytesOf (entry o ∷ later o)) x
-        only n b x (inl q) = subst (Begun (bs ++ bytesOf (entry o ∷ later o))) (sym q) b
+        only : later o ≡ [] → Begun (bs ++ receivedBytes (entry o ∷ later o)) (entry o) → (x : Entry) → (x ≡ entry o) ⊎ List·Memᴰ x (later o)
+            → Begun (bs ++ receivedBytes (entry o ∷ later o)) x
+        only n b x (inl q) = subst (Begun (bs ++ receivedBytes (entry o ∷ later o))) (sym q) b
         only n b x (inr j) = absurd (List·Memᴰ·not-nil (subst (List·Memᴰ x) n j))
     after-walk o (has-stopped k r q z) one =
         let n = nothing (o .state) cs (ap (λ (s : State). live (s .progress .phase)) q ∙ ended-stop m) in
@@ -125,7 +125,7 @@ module _ (rec udi : List ℕ) (m : ℕ) where
           whenever = λ d. absurd (z [] (subst (Starting rec m) (one-byte o n ∙ sym (append-nil _)) d));
         }
       where
-        only : later o ≡ [] → (x : Entry) → (x ≡ entry o) ⊎ List·Memᴰ x (later o) → Answered x → Begun (bs ++ bytesOf (entry o ∷ later o)) x
+        only : later o ≡ [] → (x : Entry) → (x ≡ entry o) ⊎ List·Memᴰ x (later o) → Answered x → Begun (bs ++ receivedBytes (entry o ∷ later o)) x
         only n x (inl p) a =
             let t : started (a .address) (a .size) ≡ stopped k = sym (a .answers) ∙ ap (λ (y : Entry). y .out .report) p ∙ r in
             absurd (let y : _≡_ {A = ℕ} 0 1 = cc in omega arith)

@@ -17,7 +17,7 @@ use Rattle.loader.specs.Answers.{refused, started}
 use Rattle.loader.specs.Begin.{beginning}
 use Rattle.loader.specs.Machine.{putIn}
 use Rattle.session.specs.Reading.{sizeOf, programOf, digestOf, Allowed, chained, measuredId, Starting}
-use Rattle.session.specs.Session.{Words, Entry, Among, isAccepted, bytesOf, Session, allOf, acceptedOf, hasEnded, refusalIn}
+use Rattle.session.specs.Session.{Words, Entry, Among, isAccepted, receivedBytes, Session, allOf, acceptedOf, hasEnded, refusalIn}
 
 -- e is an accepted call of the session that answered a start
 pub record StartedAt (S : Session) (e : Entry) : Type 0 where
@@ -32,7 +32,7 @@ Started S = (e : Entry) × StartedAt S e
 
 -- the accepted bytes read as those of a start
 abbrev pub Reads : Session → Type 0
-Reads S = Starting (S .rec) (S .ramLen) (bytesOf (acceptedOf S))
+Reads S = Starting (S .rec) (S .ramLen) (receivedBytes (acceptedOf S))
 
 -- ---- a start, by the reading of its session
 

@@ -56,10 +56,10 @@ abbrev pub accepted : List Entry → List Entry
 accepted [] = []
 accepted (e ∷ es) = cond (isAccepted (e .out .report)) (e ∷ accepted es) (accepted es)
 
--- the bytes of calls
-abbrev pub bytesOf : List Entry → List ℕ
-bytesOf [] = []
-bytesOf (e ∷ es) = e .call .byte ∷ bytesOf es
+-- the bytes that calls received
+abbrev pub receivedBytes : List Entry → List ℕ
+receivedBytes [] = []
+receivedBytes (e ∷ es) = e .call .byte ∷ receivedBytes es
 
 -- the RAM of the first holds r, and that of each later one what the one before it left
 abbrev pub OneRam : List ℕ → List Entry → Type 0
