@@ -8,7 +8,7 @@
 #include <string.h>
 #include <time.h>
 
-#include "mastfrap_blake2s.h"
+#include "mastfrap.h"
 
 void reference_blake2s(const uint8_t *msg, size_t n, uint8_t out[32]);
 

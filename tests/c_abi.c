@@ -11,7 +11,7 @@
 #include <string.h>
 #include <sys/mman.h>
 
-#include "mastfrap_blake2s.h"
+#include "mastfrap.h"
 
 #define SHORT (1u << 20)
 #define SPARE 4

@@ -155,7 +155,7 @@ pub fn number(a: Answer) -> u32
     }
 }
 
-// hash, for C: include/mastfrap_blake2s.h.
+// hash, for C: include/mastfrap.h.
 #[no_mangle]
 pub extern "C" fn mastfrap_blake2s(key: &[u8], msg: &[u8], out: &mut [u8]) -> u32
     ensures { λ r. ⌜ (r ≡ hashNumber (length (now (key .entry))) (length (now (msg .entry))) (length (now (out .entry)))) × (now (out .exit) ≡ hashOutput (now (key .entry)) (now (msg .entry)) (now (out .entry))) ⌝ }

@@ -12,8 +12,8 @@ use lib.Seq.{paste, take-all, take-length, drop-drop}
 use borrow.Author.Tests.{eq-eqb, eqb-true}
 use Rattle.blake2s.specs.Rfc7693.{bytes}
 use Rattle.blake2s.proofs.Lists.{length-each, copied}
+use Rattle.protocol.specs.Replies.{putIn}
 use Rattle.loader.specs.State.{same}
-use Rattle.loader.specs.Machine.{putIn}
 
 pub same-refl : (xs : List ℕ) → same xs xs ≡ true
 same-refl [] = refl

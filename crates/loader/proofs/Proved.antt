@@ -11,7 +11,7 @@ use borrow.Author.Tests.{ne-eqb, eq-eqb, eqb-true, eqb-false, le-leb}
 use Rattle.loader.specs.State.{zeros, incomingOk, progressOk, ramOk, inRange, live, ended}
 use Rattle.loader.specs.Answers.{refused, continues, stopped, started, refusalNumber, stopNumber, reportOf, Outcome}
 use Rattle.loader.specs.Begin.{Beginning, ending, waitingWith, configOf, byType, beginning}
-use Rattle.loader.specs.Machine.{starting, putIn, refusal, refusing, step}
+use Rattle.loader.specs.Machine.{starting, refusal, refusing, step}
 use Rattle.loader.specs.Theorems.{Loader, number}
 use Rattle.loader.proofs.Ranges.{range-facts}
 use Rattle.loader.proofs.Steps.{admitted}
@@ -20,7 +20,7 @@ use Rattle.record.specs.Record.{recordAt}
 use Rattle.record.specs.declared.ResetType.{ResetType}
 use Rattle.record.specs.declared.ResetType.the-variants.{Flash0, Flash1, Flash0Ver, Flash1Ver, Client, ClientVer, Unknown}
 use Rattle.protocol.proofs.Proved.{protocol}
-use Rattle.protocol.specs.Replies.{sent, digestReply}
+use Rattle.protocol.specs.Replies.{sent, digestReply, putIn}
 use Rattle.protocol.specs.declared.Reply.{Reply}
 use Rattle.loader.proofs.Frames.{frame-whole, passed-over}
 use Rattle.loader.specs.declared.Phase.the-variants as phase

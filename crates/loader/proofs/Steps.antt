@@ -9,13 +9,13 @@ use lib.ListN.{length, getD}
 use borrow.Author.Tests.{ltb-false, eqb-true, not-false}
 use Rattle.framing.specs.Header.{headerAt}
 use Rattle.protocol.specs.Commands.{bytesOf, loadIn, goodLoad}
-use Rattle.protocol.specs.Replies.{sent, loadReply, digestReply}
+use Rattle.protocol.specs.Replies.{sent, loadReply, digestReply, putIn}
 use Rattle.protocol.specs.declared.Frame.{Frame}
 use Rattle.protocol.specs.declared.Load.{Load}
 use Rattle.protocol.specs.declared.Reply.{Reply}
 use Rattle.loader.specs.State.{bodyLen, inRange, live, ended}
 use Rattle.loader.specs.Answers.{refusalNumber, outcome}
-use Rattle.loader.specs.Machine.{putIn, replying, loadOf, takes, loaded, loadAnswer, afterLoad, allowed, starting, finishedWith, actionIn, performed, acted, refusal, withIncoming, gathered, afterByte, processed, step}
+use Rattle.loader.specs.Machine.{replying, loadOf, takes, loaded, loadAnswer, afterLoad, allowed, starting, finishedWith, actionIn, performed, acted, refusal, withIncoming, gathered, afterByte, processed, step}
 use Rattle.loader.specs.Steps.{plainly, frameOf}
 use Rattle.loader.specs.declared.Phase.the-variants as phase
 use Rattle.loader.specs.declared.Refusal.{Refusal}

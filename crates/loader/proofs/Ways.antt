@@ -9,13 +9,13 @@ use lib.ListN.{length, getD}
 use borrow.Author.Tests.{eqb-true, eqb-false, ltb-true, lt-ltb, le-leb, leb-true, ne-eqb}
 use Rattle.framing.specs.Header.{Reading, good, stop, headerAt}
 use Rattle.protocol.specs.Commands.{isLast}
-use Rattle.protocol.specs.Replies.{sent, nameReply, udiReply, blockReply, digestReply}
+use Rattle.protocol.specs.Replies.{sent, nameReply, udiReply, blockReply, digestReply, putIn}
 use Rattle.protocol.specs.Theorems.{Framed}
 use Rattle.protocol.proofs.Proved.{protocol}
 use Rattle.protocol.specs.declared.Reply.{Reply}
 use Rattle.loader.specs.State.{bodyLen, incomingOk, loadingOk, progressIn, progressOk, live, ended}
 use Rattle.loader.specs.Answers.{stopped, continues, Outcome}
-use Rattle.loader.specs.Machine.{putIn, plain, stopping, starting, opened, continued, gathered, actionIn, between, replying, loaded, loadOf, takes, loadAnswer, afterLoad, nextBlock, allowed, finishedWith, actedBlock, performed, acted, refusal, withIncoming, afterByte, processed, refusing, step}
+use Rattle.loader.specs.Machine.{plain, stopping, starting, opened, continued, gathered, actionIn, between, replying, loaded, loadOf, takes, loadAnswer, afterLoad, nextBlock, allowed, finishedWith, actedBlock, performed, acted, refusal, withIncoming, afterByte, processed, refusing, step}
 use Rattle.loader.proofs.Ranges.{both, by-test, length-some, loading-facts, no-block, range-facts}
 use Rattle.loader.proofs.Steps.{admitted}
 use Rattle.loader.specs.declared.Phase.{Phase}

@@ -1,15 +1,15 @@
 -- What a byte does: document 01, "Header byte", "Commands and replies" and the table of refused calls.
 use Prim.Native.Nat.{ℕ, _+_, _-_}
 use mathlib.Core.Bool.{Bool, true, not, cond}
-use mathlib.Core.List.{List, [], _∷_, _++_}
+use mathlib.Core.List.{List, [], _∷_}
 use lib.Dec.{eqb, ltb}
-use lib.ListN.{length, take, drop, set}
+use lib.ListN.{length, take, set}
 use lib.Seq.{paste}
 use Rattle.framing.specs.Header.{Reading, good, stop, headerAt}
 use Rattle.blake2s.specs.Rfc7693.{blake2s, bytes}
 use Rattle.cdi.specs.Cdi.{cdiOf}
 use Rattle.protocol.specs.Commands.{firmware, commandIn, loadIn, goodLoad, usesUss, carriedBy, placeOf, countIn, isLast}
-use Rattle.protocol.specs.Replies.{sent, nameReply, udiReply, loadReply, blockReply, digestReply}
+use Rattle.protocol.specs.Replies.{sent, putIn, nameReply, udiReply, loadReply, blockReply, digestReply}
 use Rattle.protocol.specs.declared.Load.{Load}
 use Rattle.protocol.specs.declared.Reply.{Reply}
 use Rattle.loader.specs.State.{zeros, same, bodyLen, inRange, live, idle, ended}
@@ -84,10 +84,6 @@ plain report reply s room ram uds =
 -- stop k, without a reply
 abbrev pub stopping : ℕ → State → List ℕ → List ℕ → List ℕ → Outcome
 stopping k s room ram uds = plain (stopped k) 0 (ended phase.Stopped (s .config .«ram_len»)) room ram uds
-
--- the room with a reply at its front: only reply bytes are written
-unfoldable pub putIn : List ℕ → List ℕ → List ℕ
-putIn room reply = reply ++ drop (length reply) room
 
 -- a reply, after which the session goes on
 abbrev pub replying : Reply → State → List ℕ → List ℕ → List ℕ → Outcome

@@ -6,9 +6,9 @@ ghost use lib.ListN.{length, take, getD, replicate};
 ghost use lib.Seq.{paste};
 ghost use Rattle.blake2s.specs.Rfc7693.{blake2s, bytes};
 ghost use Rattle.protocol.specs.Commands.{bytesOf, placeOf, countIn};
-ghost use Rattle.protocol.specs.Replies.{sent};
+ghost use Rattle.protocol.specs.Replies.{sent, putIn};
 ghost use Rattle.loader.specs.State.{same};
-ghost use Rattle.loader.specs.Machine.{putIn, storedIn};
+ghost use Rattle.loader.specs.Machine.{storedIn};
 use protocol::Frame;
 use protocol::Reply;
 

@@ -9,10 +9,10 @@ use Rattle.printer.specs.Lines.{hexOf, decimalOf, lineOf}
 use Rattle.blake2s.specs.Rfc7693.{word}
 use Rattle.framing.specs.Header.{headerAt, headerByte}
 use Rattle.record.specs.Record.{recordAt}
-use Rattle.protocol.specs.Replies.{nameReply, replyHeader}
+use Rattle.protocol.specs.Replies.{nameReply, replyHeader, putIn}
 use Rattle.loader.specs.State.{inRange, ended}
 use Rattle.loader.specs.Begin.{beginning}
-use Rattle.loader.specs.Machine.{step, refusal, processed, gathered, acted, putIn}
+use Rattle.loader.specs.Machine.{step, refusal, processed, gathered, acted}
 use Rattle.printer.specs.Sessions.{opening, received}
 use Rattle.printer.specs.Theorems.{Printer}
 

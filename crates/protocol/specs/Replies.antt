@@ -3,7 +3,7 @@
 use Prim.Native.Nat.{ℕ, _-_}
 use mathlib.Core.Bool.{Bool, cond}
 use mathlib.Core.List.{List, [], _∷_, _++_}
-use lib.ListN.{length, take, replicate}
+use lib.ListN.{length, take, drop, replicate}
 use Rattle.framing.specs.Header.{frameId, inField, Writing, byte, refused, headerByte}
 use Rattle.protocol.specs.Commands.{firmware}
 use Rattle.protocol.specs.declared.Reply.{Reply}
@@ -28,6 +28,10 @@ filled n bytes = bytes ++ replicate (n - length bytes) 0
 -- the bytes of a reply as they are sent
 abbrev pub sent : Reply → List ℕ
 sent r = r .header ∷ take (r .len) (r .body)
+
+-- a room with a frame at its front: only the frame's bytes are written
+unfoldable pub putIn : List ℕ → List ℕ → List ℕ
+putIn room frame = frame ++ drop (length frame) room
 
 -- 0x01, name and version: "tk1 ", "mkdf", version 1 in four bytes
 unfoldable pub nameReply : ℕ → Reply

@@ -13,13 +13,14 @@ use Rattle.framing.specs.Header.{headerAt}
 use Rattle.blake2s.specs.Rfc7693.{blake2s, bytes}
 use Rattle.cdi.specs.Cdi.{cdiString, cdiOf}
 use Rattle.protocol.specs.Commands.{loadIn, goodLoad, usesUss, carriedBy, blocksFor, countIn, isLast}
-use Rattle.protocol.specs.Replies.{sent, digestReply}
+use Rattle.protocol.specs.Replies.{sent, putIn, loadReply, blockReply, digestReply}
+use Rattle.protocol.specs.declared.Reply.{Reply}
 use Rattle.protocol.proofs.Proved.{protocol}
 use Rattle.record.specs.Record.{typeField, requiredField, fieldOf, numberIn, recordAt}
 use Rattle.loader.specs.State.{zeros, same, bodyLen, idle, ended}
 use Rattle.loader.specs.Answers.{continues, stopped, started, Outcome}
 use Rattle.loader.specs.Begin.{waiting, configOf}
-use Rattle.loader.specs.Machine.{actionIn, frameIn, putIn, storedIn, replying, loadAnswer, afterLoad, starting, allowed, finishedWith, actedBlock, performed, acted}
+use Rattle.loader.specs.Machine.{actionIn, frameIn, storedIn, replying, loadAnswer, afterLoad, starting, allowed, finishedWith, actedBlock, performed, acted}
 use Rattle.loader.proofs.Bytes.{same-refl, same-eq}
 use Rattle.loader.proofs.Ranges.{never, by-test, length-some}
 use Rattle.session.specs.Reading.{All, Good, forFirmware, bodyOf, Query, Load, Opens, Block, carried, sizeOf, programOf, digestOf, Allowed, chained, measuredId}
@@ -110,8 +111,21 @@ module _ (rec udi : List ℕ) (m : ℕ) where
     pub cleared : o .uds ≡ zeros 8
     pub state : o .state ≡ ended phase.Started m
 
+  -- the reply to a frame after which the session goes on
+  pub data ReplyTo (f : List ℕ) : Reply → Type 0 where
+    to-query : Query f → (r : Reply) → ReplyTo f r
+    to-load : Load f → (h : ℕ) → h ≡ getD f 0 0 → (g : Bool) → g ≡ goodLoad m (loadIn f) → ReplyTo f (loadReply h g)
+    to-block : Block f → (h : ℕ) → h ≡ getD f 0 0 → ReplyTo f (blockReply h)
+
+  -- it is in the room
+  pub record Replies (room f : List ℕ) (o : Outcome) : Type 0 where
+    pub is : Reply
+    pub reply-to : ReplyTo f is
+    pub reply : o .reply ≡ is .len + 1
+    pub room-after : o .room ≡ putIn room (sent is)
+
   pub data Acts (room uds : List ℕ) (os : List (List ℕ)) (f : List ℕ) (o : Outcome) : Type 0 where
-    goes : o .report ≡ continues → (p : Progress) → o .state ≡ at idle p → Doing (o .ram) (os ++ f ∷ []) p → length (o .ram) ≡ m → Acts room uds os f o
+    goes : o .report ≡ continues → (p : Progress) → o .state ≡ at idle p → Doing (o .ram) (os ++ f ∷ []) p → length (o .ram) ≡ m → Replies room f o → Acts room uds os f o
     starts : (g : Shape m (os ++ f ∷ [])) → Complete g → Block f → Leaves (g .load) (g .blocks) (getD f 0 0) room uds o → Acts room uds os f o
     stops : (k : ℕ) → o .report ≡ stopped k → o .state ≡ ended phase.Stopped m → ((hs : List (List ℕ)) (g : Shape m (os ++ f ∷ hs)) → Complete g → ⊥) → Acts room uds os f o
 
@@ -126,19 +140,22 @@ module _ (rec udi : List ℕ) (m : ℕ) where
 
     acts-load : (f : List ℕ) → All (Opens m) os → Load f → frameIn (at (holding f) waiting) ≡ f
         → Acts room uds os f (performed action.Load (at (holding f) waiting) room ram uds)
-    unfolding afterLoad
+    unfolding afterLoad loadAnswer
     acts-load f a l e =
-        rw e (by-test (λ (p : Progress). Acts room uds os f (replying (loadAnswer (at (holding f) waiting)) (at idle p) room ram uds)) (goodLoad m (loadIn f)) _ _
+        rw e (by-test (λ (p : Progress). Acts room uds os f (replying (loadReply (holding f .header) (goodLoad m (loadIn f))) (at idle p) room ram uds)) (goodLoad m (loadIn f)) _ _
         (λ t.
         let s : (1 ≤ sizeOf f) × (sizeOf f ≤ m) = load-size m f (l, t) in
         goes refl (loadedWith f 0) refl
-        (is-loading (record { opening = os; load = f; blocks = []; order = refl; opens = a; loads = (l, t); carry = tt }) (omega arith) refl) fits)
-        (λ t. goes refl waiting refl (opened f a (inr (l, t))) fits))
+        (is-loading (record { opening = os; load = f; blocks = []; order = refl; opens = a; loads = (l, t); carry = tt }) (omega arith) refl) fits
+        (record { is = _; reply-to = to-load l (holding f .header) (ap (λ (x : List ℕ). getD x 0 0) e) _ refl; reply = refl; room-after = refl }))
+        (λ t.
+        goes refl waiting refl (opened f a (inr (l, t))) fits
+        (record { is = _; reply-to = to-load l (holding f .header) (ap (λ (x : List ℕ). getD x 0 0) e) _ refl; reply = refl; room-after = refl })))
 
     acts-waiting : (f : List ℕ) → All (Opens m) os → (length (bodyOf f) ≡ 128 → frameIn (at (holding f) waiting) ≡ f) → (d : Action) → AskedWaiting f d
         → Acts room uds os f (performed d (at (holding f) waiting) room ram uds)
-    acts-waiting f a e d (asks-name q) = goes refl waiting refl (opened f a (inl q)) fits
-    acts-waiting f a e d (asks-udi q) = goes refl waiting refl (opened f a (inl q)) fits
+    acts-waiting f a e d (asks-name q) = goes refl waiting refl (opened f a (inl q)) fits (record { is = _; reply-to = to-query q _; reply = refl; room-after = refl })
+    acts-waiting f a e d (asks-udi q) = goes refl waiting refl (opened f a (inl q)) fits (record { is = _; reply-to = to-query q _; reply = refl; room-after = refl })
     acts-waiting f a e d (asks-load l) = acts-load f a l (e (l .0))
     acts-waiting f a e d (wrong-command q l) = stops 23 refl refl (λ hs g c. not-next f a q l hs g)
     acts-waiting f a e d (wrong-length q l) = stops 24 refl refl (λ hs g c. not-next f a q l hs g)
@@ -241,7 +258,9 @@ module _ (rec udi : List ℕ) (m : ℕ) where
           let c : drop 1 (i .body) ≡ carriedBy f = ap carriedBy e in
           rw c (by-test (λ (o : Outcome). Acts room uds os f o) (isLast (sizeOf (g .load)) (length (g .blocks))) _ _
           (λ z. acts-last z _ (ap (λ (x : List ℕ). blake2s [] x 32) (program-in z)) i h)
-          (λ z. goes refl (loadedWith (g .load) (length (g .blocks) + 1)) refl (acts-more z) stored-length))
+          (λ z.
+          goes refl (loadedWith (g .load) (length (g .blocks) + 1)) refl (acts-more z) stored-length
+          (record { is = _; reply-to = to-block b (i .header) h; reply = refl; room-after = refl })))
 
     -- a frame that is no block, once blocks are due
     not-block : (g : Shape m os) (f : List ℕ) → (Block f → ⊥) → (hs : List (List ℕ)) (h : Shape m (os ++ f ∷ hs)) → ⊥

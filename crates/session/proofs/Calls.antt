@@ -1,7 +1,7 @@
 -- One accepted call: what the accepted bytes so far are, and what the byte of the call makes of them.
 use Prim.Native.Nat.{ℕ, suc, _+_}
 use mathlib.Core.Path.{_≡_, refl, sym, ap, _∙_, subst}
-use mathlib.Core.Bool.{true}
+use mathlib.Core.Bool.{true, false}
 use mathlib.Core.List.{List, [], _∷_, _++_, append-assoc, append-nil, head-eq-of-cons-eq, tail-eq-of-cons-eq}
 use native.Mathlib.Omega.{arith}
 use lib.ListN.{length, getD, length-append}
@@ -15,7 +15,7 @@ use Rattle.session.specs.Session.{Call}
 use Rattle.session.proofs.Frames.{All-append, own-append, joined-snoc, own-more, own-same, same-size, Further, reads-on}
 use Rattle.session.proofs.Gathering.{holding, Partial, Gathers, at-bad, at-part, at-passed, at-whole, gathers}
 use Rattle.session.proofs.Shapes.{Shape}
-use Rattle.session.proofs.Acting.{empty-rest, grows, at, Doing, Complete, not-yet, Leaves, Acts, goes, starts, stops, acts}
+use Rattle.session.proofs.Acting.{empty-rest, grows, at, Doing, Complete, not-yet, Leaves, Replies, Acts, goes, starts, stops, acts}
 use Rattle.loader.specs.declared.Phase.the-variants as phase
 use Rattle.loader.specs.declared.Progress.{Progress}
 use Rattle.loader.specs.declared.State.{State}
@@ -87,8 +87,22 @@ module _ (rec udi : List ℕ) (m : ℕ) where
       ap own (sym (append-nil (v .frames)) ∙ ap (λ (x : List (List ℕ)). v .frames ++ x) (sym n) ∙ sym (u .frames)) in
       not-yet rec udi m (v .doing) (shape-of w (own (v .frames)) e) (record { enough = w .enough; digest = w .allowed })
 
+  -- what is in the room after a call that goes on: a reply with the last byte of a frame for the firmware, and otherwise nothing
+  pub data Says (room f : List ℕ) (o : Outcome) : Type 0 where
+    within : Partial f → o .reply ≡ 0 → Says room f o
+    passed : forFirmware f ≡ false → o .reply ≡ 0 → Says room f o
+    answers : Good f → Replies rec udi m room f o → Says room f o
+
+  -- the bytes so far are whole frames, and then these, of which the byte is the last
+  pub record Said (c : Call) (bs : List ℕ) (o : Outcome) : Type 0 where
+    pub frames : List (List ℕ)
+    pub part : List ℕ
+    pub all-good : All Good frames
+    pub whole : bs ≡ joined frames ++ (part ++ c .byte ∷ [])
+    pub says : Says (c .room) (part ++ c .byte ∷ []) o
+
   pub data After (c : Call) (bs : List ℕ) (o : Outcome) : Type 0 where
-    goes-on : o .report ≡ continues → Live bs (o .state) (o .ram) → length (o .ram) ≡ m → After c bs o
+    goes-on : o .report ≡ continues → Live bs (o .state) (o .ram) → length (o .ram) ≡ m → Said c bs o → After c bs o
     has-started : (w : Starting rec m bs) → Leaves rec udi m (w .load) (w .blocks) (getD (w .last) 0 0) (c .room) (c .uds) o
         → ((rest : List ℕ) → Starting rec m (bs ++ rest) → rest ≡ []) → After c bs o
     has-stopped : (k : ℕ) → o .report ≡ stopped k → o .state ≡ ended phase.Stopped m → ((rest : List ℕ) → Starting rec m (bs ++ rest) → ⊥) → After c bs o
@@ -132,9 +146,12 @@ module _ (rec udi : List ℕ) (m : ℕ) where
         let z : u .rest ≡ [] = none-after (v .frames ++ byte-in ∷ []) (u .rest) (w .before) (w .last) (u .frames) (w .last-own) n in
         u .bytes ∙ ap joined z
 
+    said : (o : Outcome) → Says (c .room) byte-in o → Said c (bs ++ c .byte ∷ []) o
+    said o s = record { frames = v .frames; part = v .part; all-good = v .all-good; whole = longer; says = s }
+
     acted-after : (g : Good byte-in) → forFirmware byte-in ≡ true → (o : Outcome) → Acts rec udi m (c .room) (c .uds) (own (v .frames)) byte-in o
         → After c (bs ++ c .byte ∷ []) o
-    acted-after g f o (goes r p q d l) =
+    acted-after g f o (goes r p q d l a) =
         goes-on r
         (record {
           frames = v .frames ++ byte-in ∷ [];
@@ -145,7 +162,7 @@ module _ (rec udi : List ℕ) (m : ℕ) where
           progress = p;
           state = q;
           doing = subst (λ (os : List (List ℕ)). Doing rec udi m (o .ram) os p) (sym (own-more (v .frames) byte-in f)) d;
-        }) l
+        }) l (said o (answers g a))
     acted-after g f o (starts h k b l) =
         has-started
         (record {
@@ -178,7 +195,8 @@ module _ (rec udi : List ℕ) (m : ℕ) where
         no-bad (c .byte) rest (u .rest) e (u .all-good) (u .bytes)))
     gathered-after x (at-part p q) =
         rw q (goes-on refl
-        (record { frames = v .frames; part = byte-in; all-good = v .all-good; whole = longer; partial = p; progress = v .progress; state = refl; doing = v .doing }) fits)
+        (record { frames = v .frames; part = byte-in; all-good = v .all-good; whole = longer; partial = p; progress = v .progress; state = refl; doing = v .doing }) fits
+        (said _ (within p refl)))
     gathered-after x (at-passed g n q) =
         rw q (goes-on refl
         (record {
@@ -190,7 +208,7 @@ module _ (rec udi : List ℕ) (m : ℕ) where
           progress = v .progress;
           state = refl;
           doing = subst (λ (os : List (List ℕ)). Doing rec udi m (c .ram) os (v .progress)) (sym (own-same (v .frames) byte-in n)) (v .doing);
-        }) fits)
+        }) fits (said _ (passed n refl)))
     gathered-after x (at-whole g f q) =
         rw q (acted-after g f _ (acts rec udi m (c .room) (c .ram) (c .uds) fits (own (v .frames)) byte-in f g (v .progress) (v .doing)))
 

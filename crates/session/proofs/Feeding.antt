@@ -90,6 +90,6 @@ module _ (uds : List ℕ) (typed : Words uds) where
             → ((o : Outcome) → Live rec udi m (before ++ b ∷ []) (o .state) (o .ram) → Runs m (o .state) false → length (o .ram) ≡ m
             → Fed bs (log (o .state) (feed bs (o .state) (o .ram))))
             → Fed (b ∷ bs) (record { call = sending b r; out = o } ∷ log (o .state) (feed bs (o .state) (o .ram)))
-        go o x t (goes-on e u k) f = more o t (f o u (subst (λ (y : Bool). Runs m (o .state) (y || false)) (ap isEnd e) x) k)
+        go o x t (goes-on e u k s) f = more o t (f o u (subst (λ (y : Bool). Runs m (o .state) (y || false)) (ap isEnd e) x) k)
         go o x t (has-started d l z) f = more o t (rw (z bs w′) (record { none-refused = refl; all-bytes = refl }))
         go o x t (has-stopped k e q z) f = absurd (z bs w′)

@@ -5,8 +5,10 @@ pub mod Acting
 pub mod Calls
 pub mod Walk
 pub mod Begins
-pub mod Existence
+pub mod ClientFrames
 pub mod Feeding
 pub mod Strings
 pub mod Proved
+pub mod Positions
+pub mod Client
 pub mod Checked

@@ -7,7 +7,7 @@ use mathlib.Core.Option.{none, some}
 use mathlib.Core.List.{List, [], _∷_, _++_, append-nil, tail-eq-of-cons-eq, head-eq-of-cons-eq, List·Memᴰ, List·Memᴰ·head, List·Memᴰ·tail, List·Memᴰ·not-nil, List·Memᴰ·cases-cons}
 use native.Mathlib.Omega.{arith}
 use lib.Dec.{eqb, ltb}
-use lib.ListN.{length, getD, length-append}
+use lib.ListN.{length, getD, replicate, length-append}
 use Rattle.blake2s.specs.Rfc7693.{blake2s, bytes}
 use Rattle.cdi.specs.Cdi.{cdiString}
 use Rattle.cdi.specs.Theorems.{Inputs}
@@ -16,6 +16,9 @@ use Rattle.protocol.specs.Commands.{loadIn, usesUss}
 use Rattle.protocol.specs.Theorems.{loadWith}
 use Rattle.protocol.specs.declared.Load.{Load}
 use Rattle.record.specs.Record.{typeField, numberIn}
+use Rattle.client.specs.Frames.{secretOf}
+use Rattle.client.proofs.Proved as making
+use Rattle.client.specs.declared.Secret.{Secret}
 use Rattle.loader.specs.State.{live}
 use Rattle.loader.specs.Answers.{refused}
 use Rattle.loader.specs.Begin.{waiting, beginning}
@@ -23,6 +26,7 @@ use Rattle.loader.proofs.Bytes.{bytes-length}
 use Rattle.loader.proofs.Proved.{loader}
 use Rattle.session.specs.Reading.{All, Good, joined, own, digestOf, Allowed, chained, measuredId, Starting}
 use Rattle.session.specs.Session.{Words, Entry, Among, isAccepted, receivedBytes, Session, allOf, acceptedOf, hasEnded, refusalIn}
+use Rattle.session.specs.Client.{frames, Made}
 use Rattle.session.specs.Boot.{StartedAt, Started, Reads, used, Start, stringAt, Gives, Same, StartOf, VerifiedBoot}
 use Rattle.session.proofs.Frames.{reads-on}
 use Rattle.session.proofs.Shapes.{one-shape}
@@ -30,7 +34,7 @@ use Rattle.session.proofs.Acting.{is-waiting, Leaves}
 use Rattle.session.proofs.Calls.{Live}
 use Rattle.session.proofs.Walk.{Walk, walk, Begun}
 use Rattle.session.proofs.Begins.{Fresh, fresh, Runs, table-from}
-use Rattle.session.proofs.Existence as made
+use Rattle.session.proofs.ClientFrames as made
 use Rattle.session.proofs.Feeding.{feed, one-ram, same-uds, Fed, fed}
 use Rattle.session.proofs.Strings.{same-words, digest-length, id-length, uss-length, same-secret}
 use Rattle.loader.specs.declared.State.{State}
@@ -71,12 +75,12 @@ module _ (rec : List ℕ) (m : ℕ) (heard : List ℕ) (w w′ : Starting rec m 
       let u = reads-on (w′ .before ++ w′ .last ∷ []) (w .before ++ w .last ∷ []) [] (w′ .all-good) (w .all-good) (append-nil _ ∙ sym (w′ .nothing-left) ∙ w .nothing-left) in
       u .frames ∙ ap (λ (x : List (List ℕ)). (w′ .before ++ w′ .last ∷ []) ++ x) (no-frames (u .rest) (u .all-good) (u .bytes)) ∙ append-nil _
 
-  one-reading : (w .opening ≡ w′ .opening) × (w .load ≡ w′ .load) × (w .blocks ≡ w′ .blocks)
+  pub one-reading : (w .opening ≡ w′ .opening) × (w .load ≡ w′ .load) × (w .blocks ≡ w′ .blocks)
   one-reading =
       one-shape m (w .opening) (w′ .opening) (w .load) (w′ .load) (w .blocks) (w′ .blocks) (w .opens) (w′ .opens) (w .loads) (w′ .loads)
       (sym (w .order) ∙ ap own same-frames ∙ w′ .order)
 
-  one-last : w .last ≡ w′ .last
+  pub one-last : w .last ≡ w′ .last
   one-last = last-same (w .before) (w′ .before) (w .last) (w′ .last) same-frames
 
 -- the string of a start is fixed by the load and the blocks
@@ -87,7 +91,7 @@ one-string rec uds l l′ b b′ p q = rw (p, q)
 
 -- ---- a session
 
-first-live : (rec udi : List ℕ) (m : ℕ) (r : List ℕ) → Fresh rec udi m → Live rec udi m [] (beginning rec udi m .state) r
+pub first-live : (rec udi : List ℕ) (m : ℕ) (r : List ℕ) → Fresh rec udi m → Live rec udi m [] (beginning rec udi m .state) r
 first-live rec udi m r f =
     record { frames = []; part = []; all-good = tt; whole = refl; partial = tt; progress = waiting; state = f .state; doing = is-waiting tt }
 
@@ -100,7 +104,7 @@ first-runs rec udi m f =
     }
 
 module _ (S : Session) where
-  begins : Fresh (S .rec) (S .udi) (S .ramLen)
+  pub begins : Fresh (S .rec) (S .udi) (S .ramLen)
   begins = fresh (S .rec) (S .udi) (S .ramLen) (S .begins) (S .client)
 
   walked : Walk (S .rec) (S .udi) (S .ramLen) [] (acceptedOf S)
@@ -194,19 +198,17 @@ never-one S e i q =
 
 -- ---- existence
 
-module _ (rec udi ram uds prog : List ℕ) (flag : Bool) (uss : List ℕ) (accepts : isAccepted (beginning rec udi (length ram) .report) ≡ true)
-    (client : (numberIn typeField rec ≡ 4) ⊎ (numberIn typeField rec ≡ 5)) (eight : length uds ≡ 8) (typed : Words uds) (least : 1 ≤ length prog)
-    (fits : length prog ≤ length ram) (allows : Allowed rec (blake2s [] prog 32)) (secret : length uss ≡ 32) where
+module _ (rec udi ram uds prog : List ℕ) (id : ℕ) (secret : Secret) (makes : Made prog id secret)
+    (accepts : isAccepted (beginning rec udi (length ram) .report) ≡ true) (client : (numberIn typeField rec ≡ 4) ⊎ (numberIn typeField rec ≡ 5))
+    (eight : length uds ≡ 8) (typed : Words uds) (fits : length prog ≤ length ram) (allows : Allowed rec (blake2s [] prog 32)) where
   fresh-head : Fresh rec udi (length ram)
   fresh-head = fresh rec udi (length ram) accepts client
 
-  small : length prog ≤ 131072
-  small = let s = fresh-head .small in omega arith
-
   abbrev sent : List ℕ
-  sent = joined (made.frames prog least small flag uss secret rec (length ram) fits allows)
+  sent = joined (frames prog id secret)
 
-  abbrev session : Session
+  -- the session in which the head is sent these frames
+  abbrev pub session : Session
   session =
       record {
         rec = rec;
@@ -219,24 +221,25 @@ module _ (rec udi ram uds prog : List ℕ) (flag : Bool) (uss : List ℕ) (accep
         one-ram = one-ram uds typed sent (beginning rec udi (length ram) .state) ram;
       }
 
-  all-fed : Fed uds typed rec udi (length ram) eight sent (allOf session)
+  pub all-fed : Fed uds typed rec udi (length ram) eight sent (allOf session)
   all-fed =
       fed uds typed rec udi (length ram) eight sent [] (beginning rec udi (length ram) .state) ram (first-live rec udi (length ram) ram fresh-head)
-      (first-runs rec udi (length ram) fresh-head) refl (made.reading prog least small flag uss secret rec (length ram) fits allows sent refl)
+      (first-runs rec udi (length ram) fresh-head) refl (made.reading prog id secret makes rec (length ram) fits allows sent refl)
 
   all-heard : receivedBytes (acceptedOf session) ≡ sent
   all-heard = ap receivedBytes (all-fed .none-refused) ∙ all-fed .all-bytes
 
   abbrev reading : Reads session
-  reading = made.reading prog least small flag uss secret rec (length ram) fits allows (receivedBytes (acceptedOf session)) all-heard
+  reading = made.reading prog id secret makes rec (length ram) fits allows (receivedBytes (acceptedOf session)) all-heard
 
   -- the flag of the load says whether there is a user secret
-  secret-of : (l : Load) (v : Bool) → l ≡ loadWith (length prog) (cond v 1 0) uss → cond (usesUss l) (some (l .uss)) none ≡ cond v (some uss) none
+  secret-of : (l : Load) (v : Bool) → l ≡ loadWith (length prog) (cond v 1 0) (cond v (secret .uss) (replicate 32 0))
+      → cond (usesUss l) (some (l .uss)) none ≡ cond v (some (secret .uss)) none
   secret-of l true e = rw e refl
   secret-of l false e = rw e refl
 
-  exists : StartOf rec udi ram uds prog (cond flag (some uss) none)
-  exists =
+  started : StartOf rec udi ram uds prog (cond (secret .used) (some (secret .uss)) none)
+  started =
       let t = exactly session .1 reading in
       record {
         session = session;
@@ -246,10 +249,20 @@ module _ (rec udi ram uds prog : List ℕ) (flag : Bool) (uss : List ℕ) (accep
         same-length = refl;
         same-ram = refl;
         same-uds = same-uds uds typed sent (beginning rec udi (length ram) .state) ram (t .0) (subst (List·Memᴰ (t .0)) (all-fed .none-refused) (mem-of (acceptedOf session) (t .0) (t .1 .among)));
-        same-program = made.reading-program prog least small flag uss secret rec (length ram) fits allows (receivedBytes (acceptedOf session)) all-heard;
-        same-secret = secret-of (loadIn (reading .load)) flag (made.reading-load prog least small flag uss secret rec (length ram) fits allows (receivedBytes (acceptedOf session)) all-heard);
+        same-program = made.reading-program prog id secret makes rec (length ram) fits allows (receivedBytes (acceptedOf session)) all-heard;
+        same-secret = secret-of (loadIn (reading .load)) (secret .used) (made.reading-load prog id secret makes rec (length ram) fits allows (receivedBytes (acceptedOf session)) all-heard);
         none-refused = all-fed .none-refused;
       }
+
+exists : (rec udi ram uds prog : List ℕ) (flag : Bool) (uss : List ℕ)
+    → isAccepted (beginning rec udi (length ram) .report) ≡ true → (numberIn typeField rec ≡ 4) ⊎ (numberIn typeField rec ≡ 5)
+    → length uds ≡ 8 → Words uds → 1 ≤ length prog → length prog ≤ length ram → Allowed rec (blake2s [] prog 32) → length uss ≡ 32
+    → StartOf rec udi ram uds prog (cond flag (some uss) none)
+exists rec udi ram uds prog flag uss accepts client eight typed least fits allows secret =
+    let s = fresh rec udi (length ram) accepts client .small in
+    let m : Made prog 0 (secretOf flag uss) =
+    record { accepted = making.client .accepts (length prog) 0 0 .1 (least, omega arith, omega arith, omega arith); uss-length = secret } in
+    started rec udi ram uds prog 0 (secretOf flag uss) m accepts client eight typed fits allows
 
 pub verified-boot : VerifiedBoot
 verified-boot =

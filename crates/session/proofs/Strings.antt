@@ -26,7 +26,7 @@ byte-of h k j l n =
     ∙ ap (λ (x : ℕ). getD h k 0 / 2 ^ (8 * x) % 2 ^ 8) b
 
 -- a word below 2^32 is its four bytes
-rebuilt : (x : ℕ) → x < 4294967296 → x ≡ x / 1 % 256 + 256 * (x / 256 % 256) + 65536 * (x / 65536 % 256) + 16777216 * (x / 16777216 % 256)
+pub rebuilt : (x : ℕ) → x < 4294967296 → x ≡ x / 1 % 256 + 256 * (x / 256 % 256) + 65536 * (x / 65536 % 256) + 16777216 * (x / 16777216 % 256)
 rebuilt x h =
     let a : x / 256 / 256 ≡ x / 65536 = omega arith in
     let b : x / 65536 / 256 ≡ x / 16777216 = omega arith in

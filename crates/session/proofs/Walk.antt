@@ -89,7 +89,7 @@ module _ (rec udi : List ℕ) (m : ℕ) where
     one-byte o n = ap (λ (x : List Entry). bs ++ c .byte ∷ receivedBytes x) n
 
     after-walk : (o : Outcome) → After rec udi m c (bs ++ c .byte ∷ []) o → OneRam (o .ram) (later o) → Walk bs (entry o ∷ later o)
-    after-walk o (goes-on e v l) one =
+    after-walk o (goes-on e v l s) one =
         let w = rest (bs ++ c .byte ∷ []) (o .state) (o .ram) v one in
         let p = append-assoc bs (c .byte ∷ []) (receivedBytes (later o)) in
         record {

@@ -10,12 +10,11 @@ use lib.ListN.{length, getD, take}
 use Rattle.blake2s.specs.Rfc7693.{blake2s, bytes}
 use Rattle.cdi.specs.Cdi.{measurementOf, cdiString}
 use Rattle.protocol.specs.Commands.{loadIn, usesUss}
-use Rattle.protocol.specs.Replies.{sent, digestReply}
+use Rattle.protocol.specs.Replies.{sent, digestReply, putIn}
 use Rattle.record.specs.Record.{typeField, numberIn}
 use Rattle.loader.specs.State.{zeros}
 use Rattle.loader.specs.Answers.{refused, started}
 use Rattle.loader.specs.Begin.{beginning}
-use Rattle.loader.specs.Machine.{putIn}
 use Rattle.session.specs.Reading.{sizeOf, programOf, digestOf, Allowed, chained, measuredId, Starting}
 use Rattle.session.specs.Session.{Words, Entry, Among, isAccepted, receivedBytes, Session, allOf, acceptedOf, hasEnded, refusalIn}
 

@@ -1,4 +1,5 @@
 pub mod Reading
 pub mod Session
 pub mod Boot
+pub mod Client
 pub mod Checklist

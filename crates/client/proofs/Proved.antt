@@ -1,0 +1,246 @@
+-- The theorem of specs/Theorems.antt: a reply by its parts, and the parts of a reply that is expected.
+use Prim.Native.Nat.{ℕ, suc, _+_, _-_, _*_, _/_, _^_, _<_, _≤_}
+use mathlib.Core.Path.{_≡_, refl, sym, ap, _∙_, subst}
+use mathlib.Core.Bool.{Bool, true, false, cond, _&&_}
+use mathlib.Core.List.{List, [], _∷_, _++_, append-nil}
+use native.Mathlib.Omega.{arith}
+use lib.Dec.{eqb, leb}
+use lib.ListN.{length, getD, take, drop, replicate, length-take, length-drop, length-append, length-replicate, take-append-drop}
+use lib.Seq.{take-all, take-at, drop-at}
+use borrow.Author.Tests.{eq-eqb, ne-eqb, eqb-true, eqb-false, le-leb, leb-true, le-ltb}
+use Rattle.framing.specs.Header.{Reading, good, stop, headerAt, headerByte, codeOf, inField, frameId}
+use Rattle.framing.proofs.Headers.{headers, by-bits}
+use Rattle.framing.proofs.Headers as framing
+use Rattle.protocol.specs.Commands.{firmware, blocksFor, isLast}
+use Rattle.protocol.specs.Replies.{written, replyHeader, filled, sent, loadReply, blockReply, digestReply}
+use Rattle.client.specs.Answers.{numberOf}
+use Rattle.client.specs.Frames.{refusal, commandHeader, sizeBytes, loadBody, blockBody, commandBody}
+use Rattle.client.specs.Replies.{expectedReply, headerIs, allZero, digestIn, isExpected, Taking, takingAs, takenAs, refusedWith, taking}
+use Rattle.client.specs.Theorems.{Expects, Client}
+use Rattle.client.proofs.Numbers.{Given, given}
+use Rattle.client.proofs.Expected.{Fits, expected-fits, both, whole-reply}
+use Rattle.client.proofs.Zeros.{zeros-are, are-zeros}
+use Rattle.client.specs.declared.Answer.{Answer}
+use Rattle.client.specs.declared.Answer.the-variants.{Accepted, FrameRoom, ProgramLength, FrameId, FrameNumber, UnexpectedReply}
+use Rattle.client.specs.declared.Secret.{Secret}
+use Rattle.client.specs.declared.replies.Expected.{Expected}
+
+-- ---- numbers
+
+answer-of : ℕ → Answer
+answer-of n =
+    cond (eqb n 0) Accepted
+    (cond (eqb n 3) FrameRoom
+    (cond (eqb n 40) ProgramLength
+    (cond (eqb n 41) FrameId
+    (cond (eqb n 42) FrameNumber UnexpectedReply))))
+
+back : (a : Answer) → answer-of (numberOf a) ≡ a
+unfolding answer-of
+back Accepted = refl
+back FrameRoom = refl
+back ProgramLength = refl
+back FrameId = refl
+back FrameNumber = refl
+back UnexpectedReply = refl
+
+not-refused : (n id k : ℕ) → Given n id k → refusal n id k ≡ 0
+unfolding refusal
+not-refused n id k g = rw (le-leb 1 n (g .some), le-leb n 131072 (g .small), le-ltb 3 id (g .id-small), le-ltb (blocksFor n) k (g .frame))
+
+-- ---- frames
+
+filled-length : (n : ℕ) (l : List ℕ) → length l ≤ n → length (filled n l) ≡ n
+filled-length n l h = rw (length-append, length-replicate) (omega arith)
+
+body-length : (program : List ℕ) (s : Secret) (k : ℕ) → length (s .uss) ≡ 32 → length (commandBody program s k) ≡ 128
+unfolding loadBody blockBody
+body-length program s k l = go (eqb k 0) (s .used)
+  where
+    go : (a u : Bool) → length (cond a (filled 128 (0x03 ∷ sizeBytes (length program) ++ cond u (1 ∷ s .uss) (0 ∷ []))) (blockBody program (k - 1))) ≡ 128
+    go true true = filled-length 128 (0x03 ∷ sizeBytes (length program) ++ 1 ∷ s .uss) (omega arith)
+    go true false = refl
+    go false u = filled-length 128 (0x05 ∷ take 127 (drop (127 * (k - 1)) program)) (let t = length-take 127 (drop (127 * (k - 1)) program) in omega arith)
+
+-- the writer gives the header of a frame ID and one of the lengths, and it reads as such
+header-of : (id n : ℕ) → id ≤ 3 → codeOf n < 4 → headerAt (written (headerByte id firmware n)) ≡ good id firmware n
+header-of id n h c =
+    let w = framing.written id 2 n (omega arith) (omega arith) c in
+    rw w (headers .exact _ id 2 n .1 w .1)
+
+command-header : (id : ℕ) → id ≤ 3 → headerAt (commandHeader id) ≡ good id firmware 128
+unfolding commandHeader
+command-header id h = header-of id 128 h (omega arith)
+
+-- ---- a reply that is expected
+
+header-is : (x : Reading) (id n : ℕ) → headerIs x id n ≡ true → x ≡ good id firmware n
+header-is (good i ep m) id n e =
+    let b = both (eqb i id) (eqb ep firmware && eqb m n) e in
+    let d = both (eqb ep firmware) (eqb m n) (b .1) in
+    let p : i ≡ id = eqb-true i id (b .0) in
+    let q : ep ≡ 2 = eqb-true ep firmware (d .0) in
+    let r : m ≡ n = eqb-true m n (d .1) in
+    rw (p, q, r)
+header-is (stop k) id n e = absurd (let w : _≡_ {A = ℕ} 0 1 = cc in omega arith)
+
+byte-is : (b id n : ℕ) → b < 2 ^ 8 → headerAt b ≡ good id firmware n → b ≡ written (headerByte id firmware n)
+byte-is b id n l e = ap written (sym (headers .exact b id firmware n .0 (l, e)))
+
+-- its bytes after the status
+rest-is : (d n : ℕ) (rest : List ℕ) → d + 2 ≤ n → length rest + 2 ≡ n → allZero (drop d rest) ≡ true
+    → rest ≡ take d rest ++ replicate (n - suc (suc (length (take d rest)))) 0
+rest-is d n rest h l z =
+    let t = length-take d rest in
+    let m : length (drop d rest) ≡ n - suc (suc (length (take d rest))) = length-drop d rest ∙ omega arith in
+    sym (take-append-drop d rest) ∙ ap (λ (y : List ℕ). take d rest ++ y) (zeros-are (drop d rest) z ∙ ap (λ (i : ℕ). replicate i 0) m)
+
+parts : (x : Expected) → Fits x → (id : ℕ) (r : List ℕ) → getD r 0 0 < 2 ^ 8 → isExpected x id r ≡ true → Expects x id r
+unfolding isExpected
+parts x f id [] l e = absurd (let w = whole-reply x id [] e in omega arith)
+parts x f id (h ∷ []) l e = absurd (let w = whole-reply x id (h ∷ []) e in omega (arith, f .filler))
+parts x f id (h ∷ c ∷ []) l e = absurd (let w = whole-reply x id (h ∷ c ∷ []) e in omega (arith, f .filler))
+parts x f id (h ∷ c ∷ s ∷ rest) l e =
+    let w : suc (suc (suc (length rest))) ≡ 1 + x .len = whole-reply x id (h ∷ c ∷ s ∷ rest) e in
+    let a = both (eqb (suc (suc (suc (length rest)))) (1 + x .len)) _ e .1 in
+    let b = both (headerIs (headerAt h) id (x .len)) _ a in
+    let d = both (eqb c (x .code)) _ (b .1) in
+    let g = both (leb s 1) _ (d .1) in
+    let p : h ≡ written (headerByte id firmware (x .len)) = byte-is h id (x .len) l (header-is (headerAt h) id (x .len) (b .0)) in
+    let q : c ≡ x .code = eqb-true c (x .code) (d .0) in
+    let t : rest ≡ take (x .digest) rest ++ replicate (x .len - suc (suc (length (take (x .digest) rest)))) 0 =
+    rest-is (x .digest) (x .len) rest (f .filler) (omega arith) (g .1) in
+    let k = length-take (x .digest) rest in
+    record {
+      status = s;
+      digest = take (x .digest) rest;
+      status-small = leb-true s 1 (g .0);
+      digest-length = k ∙ omega (arith, f .filler);
+      bytes = ap (λ (y : ℕ). y ∷ c ∷ s ∷ rest) p ∙ ap (λ (y : ℕ). written (headerByte id firmware (x .len)) ∷ y ∷ s ∷ rest) q
+          ∙ ap (λ (y : List ℕ). written (headerByte id firmware (x .len)) ∷ x .code ∷ s ∷ y) t;
+    }
+
+-- ---- the reply of these parts
+
+module _ (x : Expected) (f : Fits x) (id : ℕ) (small : id ≤ 3) (r : List ℕ) (e : Expects x id r) where
+  abbrev tail : List ℕ
+  tail = e .digest ++ replicate (x .len - suc (suc (length (e .digest)))) 0
+
+  tail-length : length tail + 2 ≡ x .len
+  tail-length =
+      let d = e .digest-length in
+      let z = length-replicate {A = ℕ} (x .len - suc (suc (length (e .digest)))) 0 in
+      let a = length-append (e .digest) (replicate (x .len - suc (suc (length (e .digest)))) 0) in
+      omega (arith, f .filler)
+
+  digest-first : take (x .digest) tail ≡ e .digest
+  digest-first = take-at (e .digest) _ (x .digest) (e .digest-length)
+
+  filler-after : allZero (drop (x .digest) tail) ≡ true
+  filler-after = ap allZero (drop-at (e .digest) _ (x .digest) (e .digest-length)) ∙ are-zeros (x .len - suc (suc (length (e .digest))))
+
+  is-expected : isExpected x id r ≡ true
+  unfolding isExpected
+  is-expected =
+      let l : suc (suc (suc (length tail))) ≡ 1 + x .len = (let t = tail-length in omega arith) in
+      rw (
+        e .bytes,
+        eq-eqb (suc (suc (suc (length tail)))) (1 + x .len) l,
+        header-of id (x .len) small (f .code),
+        eq-eqb id id refl,
+        eq-eqb (x .len) (x .len) refl,
+        eq-eqb (x .code) (x .code) refl,
+        le-leb (e .status) 1 (e .status-small),
+      )
+      filler-after
+
+  taken : takenAs x id r ≡ takingAs 0 (e .status) (filled 32 (e .digest))
+  taken = rw (is-expected, e .bytes, digest-first)
+
+gives-as : (n id k : ℕ) (r : List ℕ) (x : Expected) → expectedReply n k ≡ x → refusal n id k ≡ 0 → (e : Expects x id r)
+    → taking n id k r ≡ takingAs 0 (e .status) (filled 32 (e .digest))
+unfolding taking
+gives-as n id k r x q z e = rw (z, q) (taken x (subst Fits q (expected-fits n k)) id (given n id k z .id-small) r e)
+
+gives : (n id k : ℕ) (r : List ℕ) → refusal n id k ≡ 0 → (e : Expects (expectedReply n k) id r)
+    → taking n id k r ≡ takingAs 0 (e .status) (filled 32 (e .digest))
+gives n id k r z e = gives-as n id k r (expectedReply n k) refl z e
+
+takes : (n id k : ℕ) (r : List ℕ) → getD r 0 0 < 2 ^ 8 → taking n id k r .number ≡ 0 → (refusal n id k ≡ 0) × Expects (expectedReply n k) id r
+unfolding taking
+takes n id k r l = go (refusal n id k) refl (eqb (refusal n id k) 0) refl (isExpected (expectedReply n k) id r) refl
+  where
+    go : (j : ℕ) → refusal n id k ≡ j → (a : Bool) → eqb (refusal n id k) 0 ≡ a → (b : Bool) → isExpected (expectedReply n k) id r ≡ b
+        → cond a (cond b (takingAs 0 (getD r 2 0) (digestIn (expectedReply n k) r)) (refusedWith 43)) (refusedWith (refusal n id k)) .number ≡ 0
+        → (refusal n id k ≡ 0) × Expects (expectedReply n k) id r
+    go j p true ea true eb e = (eqb-true (refusal n id k) 0 ea, parts (expectedReply n k) (expected-fits n k) id r l eb)
+    go j p true ea false eb e = absurd (omega arith)
+    go j p false ea b eb e = absurd (eqb-false (refusal n id k) 0 ea e)
+
+-- ---- the replies of `protocol`
+
+-- the frame ID that a good header gives
+id-is : (h id ep n : ℕ) → headerAt h ≡ good id ep n → inField frameId h ≡ id
+id-is h id ep n =
+    by-bits h (λ (r : Reading). r ≡ good id ep n → inField frameId h ≡ id) (λ p q e. cc)
+    (λ g e. absurd (let w : _≡_ {A = ℕ} 0 1 = cc in omega arith))
+
+-- the header of a reply to a command has the command's ID
+reply-header : (id n : ℕ) → id ≤ 3 → replyHeader (commandHeader id) n ≡ written (headerByte id firmware n)
+unfolding replyHeader
+reply-header id n h = ap (λ (i : ℕ). written (headerByte i firmware n)) (id-is (commandHeader id) id firmware 128 (command-header id h))
+
+to-load : (n id : ℕ) (g : Bool) → refusal n id 0 ≡ 0
+    → taking n id 0 (sent (loadReply (commandHeader id) g)) ≡ takingAs 0 (cond g 0 1) (replicate 32 0)
+unfolding loadReply
+to-load n id g z =
+    gives n id 0 (sent (loadReply (commandHeader id) g)) z
+    (record { status = cond g 0 1; digest = []; status-small = status-of g; digest-length = refl; bytes = ap (λ (h : ℕ). h ∷ 0x04 ∷ cond g 0 1 ∷ 0 ∷ 0 ∷ []) (reply-header id 4 (given n id 0 z .id-small)) })
+  where
+    status-of : (g : Bool) → cond g 0 1 ≤ 1
+    status-of true = omega arith
+    status-of false = omega arith
+
+-- the reply that is expected to a block
+to-block-is : (n k : ℕ) → 1 ≤ k → (t : Bool) → isLast n (k - 1) ≡ t
+    → expectedReply n k ≡ cond t (record { code = 0x07; len = 128; digest = 32 }) (record { code = 0x06; len = 4; digest = 0 })
+to-block-is n k l t e = rw (ne-eqb k 0 (λ z. omega arith), e)
+
+to-block : (n id k : ℕ) → refusal n id k ≡ 0 → 1 ≤ k → isLast n (k - 1) ≡ false
+    → taking n id k (sent (blockReply (commandHeader id))) ≡ takingAs 0 0 (replicate 32 0)
+unfolding blockReply
+to-block n id k z l e =
+    gives-as n id k (sent (blockReply (commandHeader id))) _ (to-block-is n k l false e) z
+    (record { status = 0; digest = []; status-small = omega arith; digest-length = refl; bytes = ap (λ (h : ℕ). h ∷ 0x06 ∷ 0 ∷ 0 ∷ 0 ∷ []) (reply-header id 4 (given n id k z .id-small)) })
+
+to-last : (n id k : ℕ) (digest : List ℕ) → refusal n id k ≡ 0 → 1 ≤ k → isLast n (k - 1) ≡ true → length digest ≡ 32
+    → taking n id k (sent (digestReply (commandHeader id) digest)) ≡ takingAs 0 0 digest
+unfolding digestReply
+to-last n id k digest z l e s =
+    gives-as n id k (sent (digestReply (commandHeader id) digest)) _ (to-block-is n k l true e) z
+    (record { status = 0; digest = digest; status-small = omega arith; digest-length = s; bytes = as-sent })
+    ∙ ap (λ (d : List ℕ). takingAs 0 0 d) whole
+  where
+    as-sent : sent (digestReply (commandHeader id) digest) ≡ written (headerByte id firmware 128) ∷ filled 128 (0x07 ∷ 0 ∷ digest)
+    as-sent =
+        let f = filled-length 128 (0x07 ∷ 0 ∷ digest) (omega arith) in
+        ap (λ (h : ℕ). h ∷ take 128 (filled 128 (0x07 ∷ 0 ∷ digest))) (reply-header id 128 (given n id k z .id-small))
+        ∙ ap (λ (y : List ℕ). written (headerByte id firmware 128) ∷ y) (take-all 128 (filled 128 (0x07 ∷ 0 ∷ digest)) (omega arith))
+
+    whole : filled 32 digest ≡ digest
+    whole = rw s (append-nil digest)
+
+pub client : Client
+client =
+    record {
+      answers = λ x y e. sym (back x) ∙ ap answer-of e ∙ back y;
+      accepts = λ n id k.
+          (λ z. let g = given n id k z in (g .some, g .small, g .id-small, g .frame), λ g. not-refused n id k (record { some = g .0; small = g .1; id-small = g .2; frame = g .3 }));
+      frame = λ program id s k l. ap suc (body-length program s k l);
+      header = command-header;
+      takes = λ n id k r l. (takes n id k r l, λ e. ap (λ (t : Taking). t .number) (gives n id k r (e .0) (e .1)));
+      gives = gives;
+      to-load = to-load;
+      to-block = to-block;
+      to-last = to-last;
+    }

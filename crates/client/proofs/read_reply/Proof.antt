@@ -1,0 +1,94 @@
+-- A refused call gives nothing; a reply that is taken is as long as is expected.
+use Prim.Native.Nat.{_+_}
+use mathlib.Core.Path.{_≡_, sym, _∙_}
+use native.Mathlib.Omega.{arith}
+use lib.ListN.{length}
+use borrow.Author.Tests.{ne-eqb, not-true, not-false}
+use Rattle.client.specs.Frames.{refusal}
+use Rattle.client.specs.Replies.{taking}
+use Rattle.client.proofs.Numbers.{refused-tag, accepted-tag, given}
+use Rattle.client.proofs.Expected.{Fits, expected-fits, whole-reply}
+use Rattle.client.specs.declared.replies.Expected.{Expected}
+use borrow.Author.Needs.{needs}
+use Rattle.client.proofs.read_reply.Statement.{statement}
+use Rattle.client.proofs.read_reply.Tie as tie
+
+-- past the tests of length, ID and number
+accepted : (m : tie.At-match-keys1) → refusal (m .before .before .before .args .len) (m .before .before .before .args .id) (m .before .before .before .args .k) ≡ 0
+accepted m = sym (m .before .check .ensures) ∙ accepted-tag (m .before .check .result) (m .match .keys1)
+
+returns : tie.Need-returns
+unfolding taking
+returns c =
+    let m = c .before in
+    let h = m .before .check in
+    let a = m .before .before .before .args in
+    let k = refusal (a .len) (a .id) (a .k) in
+    let z : k ≡ 0 → ⊥ = λ e. refused-tag (h .result) (m .match .keys2) (h .ensures ∙ e) in
+    rw (c .refused .ensures, h .ensures, ne-eqb k 0 z)
+
+cast-reply-to : tie.Need-cast-reply-to
+cast-reply-to c = let g = given _ _ _ (accepted (c .before)) in omega (arith, g .small)
+
+is-expected-requires : tie.Need-is-expected-requires
+is-expected-requires c κs =
+    let a = c .before .before .before .before .before .args in
+    let f = expected-fits (a .len) (a .k) in
+    rw (c .reply-to .ensures) (f .body, f .filler)
+
+returns-2 : tie.Need-returns-2
+unfolding taking
+returns-2 c =
+    let t = c .before .before in
+    let m = t .before .before .before in
+    rw (c .refused2 .ensures, accepted m, ← (t .before .reply-to .ensures), ← (t .is-expected .ensures), not-true (t .is-expected .result) (c .before .if1 .taken))
+
+-- a reply that is expected
+module _ (i : tie.Else1) where
+  abbrev expects : Expected
+  expects = i .before .before .reply-to .result
+
+  fits : Fits expects
+  fits =
+      let a = i .before .before .before .before .before .before .before .args in
+      rw (i .before .before .reply-to .ensures) (expected-fits (a .len) (a .k))
+
+  long : length (i .before .before .before .before .before .before .before .args .reply .now) ≡ 1 + expects .len
+  long = whole-reply expects _ _ (sym (i .before .is-expected .ensures) ∙ not-false (i .before .is-expected .result) (i .if1 .left))
+
+shared-slice-read-t12 : tie.Need-shared-slice-read-t12
+shared-slice-read-t12 c =
+    let f = fits (c .before) in
+    let l = long (c .before) in
+    omega (arith, f .filler)
+
+digest-in-requires : tie.Need-digest-in-requires
+digest-in-requires c κs =
+    let f = fits (c .before) in
+    let l = long (c .before) in
+    (f .digest, omega (arith, f .filler))
+
+returns-3 : tie.Need-returns-3
+unfolding taking
+returns-3 c =
+    let i = c .before .before in
+    let t = i .before in
+    let m = t .before .before .before in
+    rw (m .before .check .ensures, accepted m, c .digest-in .ensures, ← (t .before .reply-to .ensures), ← (t .is-expected .ensures), not-false (t .is-expected .result) (i .if1 .left))
+
+pub read-reply-spec : {M : Type 1} → statement M
+read-reply-spec =
+    tie.close
+    (tie.spec
+    (λ c κs. search needs)
+    (λ c. search needs)
+    (λ c κs. search needs)
+    returns
+    cast-reply-to
+    (λ c κs. search needs)
+    is-expected-requires
+    (λ c κs. search needs)
+    returns-2
+    shared-slice-read-t12
+    digest-in-requires
+    returns-3)

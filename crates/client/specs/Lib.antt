@@ -1,0 +1,4 @@
+pub mod Answers
+pub mod Frames
+pub mod Replies
+pub mod Theorems

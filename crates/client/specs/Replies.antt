@@ -1,0 +1,87 @@
+-- The head's replies as the server takes them: change request 1.
+use Prim.Native.Nat.{ℕ, _+_, _-_}
+use mathlib.Core.Bool.{Bool, true, false, cond, _&&_}
+use mathlib.Core.List.{List, [], _∷_}
+use lib.Dec.{eqb, leb}
+use lib.ListN.{length, getD, take, drop, replicate}
+use Rattle.framing.specs.Header.{Reading, good, stop, headerAt}
+use Rattle.protocol.specs.Commands.{firmware, isLast}
+use Rattle.protocol.specs.Replies.{filled}
+use Rattle.client.specs.Answers.{numberOf}
+use Rattle.client.specs.Frames.{refusal}
+use Rattle.client.specs.declared.Taken.{Taken}
+use Rattle.client.specs.declared.replies.Expected.{Expected}
+
+-- code, body length, and how many bytes of a digest come after the status: to the load, to a block and to the last block of n bytes
+abbrev pub expectedReply : ℕ → ℕ → Expected
+expectedReply n k =
+    cond (eqb k 0) (record { code = 0x04; len = 4; digest = 0 })
+    (cond (isLast n (k - 1)) (record { code = 0x07; len = 128; digest = 32 })
+    (record { code = 0x06; len = 4; digest = 0 }))
+
+-- bits 7 and 2 zero, the expected ID, endpoint 2 and the expected length
+abbrev pub headerIs : Reading → ℕ → ℕ → Bool
+headerIs (good i ep n) id len = eqb i id && (eqb ep firmware && eqb n len)
+headerIs (stop k) id len = false
+
+abbrev pub allZero : List ℕ → Bool
+allZero [] = true
+allZero (b ∷ bs) = eqb b 0 && allZero bs
+
+-- the bytes of a reply: header, code, status, the digest of the last, and filler
+abbrev pub codeIn : List ℕ → ℕ
+codeIn r = getD r 1 0
+
+abbrev pub statusIn : List ℕ → ℕ
+statusIn r = getD r 2 0
+
+-- zeros where no digest is expected
+abbrev pub digestIn : Expected → List ℕ → List ℕ
+digestIn x r = filled 32 (take (x .digest) (drop 3 r))
+
+abbrev pub fillerIn : Expected → List ℕ → List ℕ
+fillerIn x r = drop (x .digest) (drop 3 r)
+
+-- one whole frame with the expected header and code, a status of 0 or 1, and zero filler
+unfoldable pub isExpected : Expected → ℕ → List ℕ → Bool
+isExpected x id r =
+    eqb (length r) (1 + x .len)
+    && (headerIs (headerAt (getD r 0 0)) id (x .len)
+    && (eqb (codeIn r) (x .code)
+    && (leb (statusIn r) 1
+    && allZero (fillerIn x r))))
+
+-- ---- the call
+
+-- all that reading a reply settles: the number of the refusal, 0 for none, the status and the digest
+pub record Taking : Type 0 where
+  pub number : ℕ
+  pub status : ℕ
+  pub digest : List ℕ
+
+abbrev pub takingAs : ℕ → ℕ → List ℕ → Taking
+takingAs number status digest = record { number = number; status = status; digest = digest }
+
+abbrev pub takingOf : Taken → Taking
+takingOf t = takingAs (numberOf (t .answer)) (t .status) (t .digest)
+
+-- a refused reading gives neither status nor digest
+abbrev pub refusedWith : ℕ → Taking
+refusedWith k = record { number = k; status = 0; digest = replicate 32 0 }
+
+abbrev pub takenAs : Expected → ℕ → List ℕ → Taking
+takenAs x id r =
+    cond (isExpected x id r)
+    (record { number = 0; status = statusIn r; digest = digestIn x r })
+    (refusedWith 43)
+
+unfoldable pub taking : ℕ → ℕ → ℕ → List ℕ → Taking
+taking n id k r =
+    let j = refusal n id k in
+    cond (eqb j 0) (takenAs (expectedReply n k) id r) (refusedWith j)
+
+-- where status and digest are lent: a refused reading leaves them
+unfoldable pub takingInto : ℕ → ℕ → ℕ → List ℕ → ℕ → List ℕ → Taking
+takingInto n id k r status digest =
+    let t = taking n id k r in
+    cond (eqb (t .number) 0) t (takingAs (t .number) status digest)

@@ -1,0 +1,45 @@
+-- What is proved about the two calls besides their promises. The proof is `client` in proofs/Proved.antt.
+use Prim.Native.Nat.{ℕ, _^_, _-_, _<_, _≤_}
+use mathlib.Core.Path.{_≡_}
+use mathlib.Core.Logic.{_↔_}
+use mathlib.Core.Bool.{Bool, true, false, cond}
+use mathlib.Core.List.{List, _∷_}
+use lib.ListN.{length, getD, replicate}
+use Rattle.framing.specs.Header.{good, headerAt, headerByte}
+use Rattle.protocol.specs.Commands.{firmware, blocksFor, isLast}
+use Rattle.protocol.specs.Replies.{written, filled, sent, loadReply, blockReply, digestReply}
+use Rattle.client.specs.Answers.{numberOf}
+use Rattle.client.specs.Frames.{refusal, commandHeader, commandFrame}
+use Rattle.client.specs.Replies.{expectedReply, takingAs, taking}
+use Rattle.client.specs.declared.Answer.{Answer}
+use Rattle.client.specs.declared.Secret.{Secret}
+use Rattle.client.specs.declared.replies.Expected.{Expected}
+
+-- r is the expected reply, written from its parts: the header, the code, a status of 0 or 1, a digest if it has one, and zeros
+pub record Expects (x : Expected) (id : ℕ) (r : List ℕ) : Type 0 where
+  pub status : ℕ
+  pub digest : List ℕ
+  pub status-small : status ≤ 1
+  pub digest-length : length digest ≡ x .digest
+  pub bytes : r ≡ written (headerByte id firmware (x .len)) ∷ filled (x .len) (x .code ∷ status ∷ digest)
+
+pub record Client : Type 0 where
+  -- the number settles the answer
+  pub answers : (x y : Answer) → numberOf x ≡ numberOf y → x ≡ y
+  -- which programs, IDs and numbers are not refused
+  pub accepts : (n id k : ℕ) → (refusal n id k ≡ 0) ↔ ((1 ≤ n) × (n ≤ 131072) × (id ≤ 3) × (k ≤ blocksFor n))
+  -- a frame has 129 bytes; its header reads as the frame ID, endpoint 2 and a body of 128
+  pub frame : (program : List ℕ) (id : ℕ) (s : Secret) (k : ℕ) → length (s .uss) ≡ 32 → length (commandFrame program id s k) ≡ 129
+  pub header : (id : ℕ) → id ≤ 3 → headerAt (commandHeader id) ≡ good id firmware 128
+  -- a reply is taken exactly when it is the expected one, and then its status is given, and the digest if it has one
+  pub takes : (n id k : ℕ) (r : List ℕ) → getD r 0 0 < 2 ^ 8
+      → (taking n id k r .number ≡ 0) ↔ ((refusal n id k ≡ 0) × Expects (expectedReply n k) id r)
+  pub gives : (n id k : ℕ) (r : List ℕ) → refusal n id k ≡ 0 → (e : Expects (expectedReply n k) id r)
+      → taking n id k r ≡ takingAs 0 (e .status) (filled 32 (e .digest))
+  -- so are the replies that `protocol` writes to these frames
+  pub to-load : (n id : ℕ) (good : Bool) → refusal n id 0 ≡ 0
+      → taking n id 0 (sent (loadReply (commandHeader id) good)) ≡ takingAs 0 (cond good 0 1) (replicate 32 0)
+  pub to-block : (n id k : ℕ) → refusal n id k ≡ 0 → 1 ≤ k → isLast n (k - 1) ≡ false
+      → taking n id k (sent (blockReply (commandHeader id))) ≡ takingAs 0 0 (replicate 32 0)
+  pub to-last : (n id k : ℕ) (digest : List ℕ) → refusal n id k ≡ 0 → 1 ≤ k → isLast n (k - 1) ≡ true → length digest ≡ 32
+      → taking n id k (sent (digestReply (commandHeader id) digest)) ≡ takingAs 0 0 digest

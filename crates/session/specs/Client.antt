@@ -1,0 +1,111 @@
+-- The server's half against the head: change request 1. The frames are those that the promise of `make_frame` cites, the replies are read as that of
+-- `read_reply` says, and the head is a session of specs/Session.antt. The proof is `client-load` in proofs/Client.antt.
+use Prim.Native.Nat.{ℕ, zero, suc, _+_, _-_, _/_, _%_, _<_, _≤_}
+use mathlib.Core.Path.{_≡_}
+use mathlib.Core.Logic.{_↔_, _⊎_}
+use mathlib.Core.Bool.{true, false, cond}
+use mathlib.Core.List.{List, [], _∷_, _++_}
+use lib.Dec.{eqb}
+use lib.ListN.{length, getD, take, drop, replicate}
+use Rattle.blake2s.specs.Rfc7693.{blake2s, bytes}
+use Rattle.cdi.specs.Cdi.{cdiString}
+use Rattle.framing.specs.Header.{good, headerAt}
+use Rattle.protocol.specs.Commands.{firmware, loadIn, carriedBy, blocksFor, placeOf}
+use Rattle.protocol.specs.Replies.{filled}
+use Rattle.protocol.specs.Theorems.{loadWith}
+use Rattle.record.specs.Record.{typeField, numberIn}
+use Rattle.loader.specs.Answers.{started}
+use Rattle.loader.specs.Begin.{beginning}
+use Rattle.client.specs.Frames.{refusal, commandFrame}
+use Rattle.client.specs.Replies.{takingAs, taking}
+use Rattle.client.specs.declared.Secret.{Secret}
+use Rattle.session.specs.Reading.{joined, Load, Block, Allowed, chained, measuredId}
+use Rattle.session.specs.Session.{Words, Entry, Among, isAccepted, receivedBytes, Session, allOf, acceptedOf, hasEnded}
+use Rattle.session.specs.Boot.{Start}
+
+-- each number of a list is below 2^8
+abbrev pub Bytes : List ℕ → Type 0
+Bytes [] = Unit {0}
+Bytes (b ∷ bs) = (b < 256) × Bytes bs
+
+module _ (program : List ℕ) (id : ℕ) (secret : Secret) where
+  -- the frames that are made: frame 0 is the load, frame k block k - 1
+  abbrev pub frame : ℕ → List ℕ
+  frame k = commandFrame program id secret k
+
+  -- those before frame k, in order
+  abbrev pub framesTo : ℕ → List (List ℕ)
+  framesTo zero = []
+  framesTo (suc k) = framesTo k ++ frame k ∷ []
+
+  abbrev pub frames : List (List ℕ)
+  frames = framesTo (suc (blocksFor (length program)))
+
+  abbrev pub programDigest : List ℕ
+  programDigest = blake2s [] program 32
+
+  -- the digest that the reply to frame k gives: the program's with the last one, and otherwise none, which is zeros
+  abbrev pub digestAt : ℕ → List ℕ
+  digestAt k = cond (eqb k (blocksFor (length program))) programDigest (replicate 32 0)
+
+  -- a program, an ID and a secret that no call refuses; that a secret has 32 bytes is its type in the code
+  pub record Made : Type 0 where
+    pub accepted : refusal (length program) id 0 ≡ 0
+    pub uss-length : length (secret .uss) ≡ 32
+
+  -- a session of a fresh head of type 4 or 5 in which it received these frames and no call was refused: RAM has room for the program, and type 5
+  -- requires its digest
+  pub record Heard (S : Session) : Type 0 where
+    pub fits : length program ≤ S .ramLen
+    pub allowed : Allowed (S .rec) programDigest
+    pub bytes : receivedBytes (allOf S) ≡ joined frames
+    pub none-refused : acceptedOf S ≡ allOf S
+
+  -- what a call leaves in its room, where it is call i from 0, and so received byte i % 129 of frame i / 129
+  pub record Replied (i : ℕ) (e : Entry) : Type 0 where
+    -- a reply comes with the last byte of a frame and with no other
+    pub silent : (i % 129 ≡ 128 → ⊥) → e .out .reply ≡ 0
+    -- the client takes it as the reply to that frame, with status 0
+    pub taken : i % 129 ≡ 128 → taking (length program) id (i / 129) (take (e .out .reply) (e .out .room)) ≡ takingAs 0 0 (digestAt (i / 129))
+
+  pub record Loads (S : Session) : Type 0 where
+    -- the head starts at the last byte of the last frame, and not before
+    pub start : Start S
+    pub before : List Entry
+    pub last : allOf S ≡ before ++ start .entry ∷ []
+    pub not-before : hasEnded before ≡ false
+    -- with this program at the front of RAM, and this user secret or none in the string of the CDI
+    pub report : start .entry .out .report ≡ started 0x40000000 (length program)
+    pub front : take (length program) (start .entry .out .ram) ≡ program
+    pub cdi : start .entry .out .cdi
+        ≡ blake2s [] (cdiString (bytes (start .entry .call .uds)) (chained (S .rec)) (measuredId (S .rec)) programDigest (secret .used) (secret .uss)) 32
+    pub replies : (e : Entry) (i : Among e (allOf S)) → Replied (length (i .before)) e
+
+  -- ---- the frames by document 01's reading
+
+  -- the load of this program: size, flag and user secret, which is zeros where it is not used, as is all that is ignored
+  pub record IsLoad (f : List ℕ) : Type 0 where
+    pub header : headerAt (getD f 0 0) ≡ good id firmware 128
+    pub load : Load f
+    pub says : loadIn f ≡ loadWith (length program) (cond (secret .used) 1 0) (cond (secret .used) (secret .uss) (replicate 32 0))
+    pub ignored : drop 39 f ≡ replicate 90 0
+
+  -- its block k: it carries the program from the block's place on, filled up with zeros
+  pub record IsBlock (k : ℕ) (f : List ℕ) : Type 0 where
+    pub header : headerAt (getD f 0 0) ≡ good id firmware 128
+    pub block : Block f
+    pub carries : carriedBy f ≡ filled 127 (take 127 (drop (placeOf k) program))
+
+  -- the frames that are made are these, and no other bytes are
+  pub record ReadAs : Type 0 where
+    pub load : (f : List ℕ) → Bytes f → (f ≡ frame 0) ↔ IsLoad f
+    pub block : (k : ℕ) (f : List ℕ) → Bytes f → (f ≡ frame (suc k)) ↔ IsBlock k f
+
+pub record ClientLoad : Type 0 where
+  pub reads : (program : List ℕ) (id : ℕ) (secret : Secret) → Made program id secret → ReadAs program id secret
+  pub loads : (program : List ℕ) (id : ℕ) (secret : Secret) → Made program id secret → (S : Session) → Heard program id secret S → Loads program id secret S
+  -- there is such a session for every record, UDI, RAM and UDS that allow it
+  pub exists : (program : List ℕ) (id : ℕ) (secret : Secret) → Made program id secret → (rec udi ram uds : List ℕ)
+      → isAccepted (beginning rec udi (length ram) .report) ≡ true → (numberIn typeField rec ≡ 4) ⊎ (numberIn typeField rec ≡ 5)
+      → length uds ≡ 8 → Words uds → length program ≤ length ram → Allowed rec (blake2s [] program 32)
+      → (S : Session) × Heard program id secret S × (S .rec ≡ rec) × (S .udi ≡ udi) × (S .ram ≡ ram)

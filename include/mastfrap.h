@@ -1,0 +1,100 @@
+/*
+ * The proved parts of Mastfrap that a C program can call, or one in any language that calls C: BLAKE2s
+ * (RFC 7693) as proved in crates/blake2s, and the server's half of a load as proved in crates/client.
+ *
+ * `rt staticlib blake2s` writes target/staticlib/libblake2s.a, which has mastfrap_blake2s.
+ * `rt staticlib client` writes target/staticlib/libclient.a, which has mastfrap_make_frame and
+ * mastfrap_read_reply. Link the one whose calls you use, or both: they have no symbol in common.
+ *
+ * Each call answers 0, or the lowest number of its list that applies, and then has changed nothing.
+ *
+ * The proof takes the caller's word for this much: each pointer is not null, also where its length
+ * is 0, and is good for its length, which is below 2^63; and no other thread writes to these bytes
+ * meanwhile. Each call says below what must not overlap.
+ */
+#ifndef MASTFRAP_H
+#define MASTFRAP_H
+
+#include <stddef.h>
+#include <stdint.h>
+
+#ifdef __cplusplus
+extern "C" {
+#endif
+
+/* ---- libblake2s.a */
+
+enum {
+    MASTFRAP_BLAKE2S_ACCEPTED = 0,
+    MASTFRAP_BLAKE2S_OUTPUT_LENGTH = 8,  /* out_len is 0 or over 32 */
+    MASTFRAP_BLAKE2S_KEY_LENGTH = 9,     /* key_len is over 32 */
+    MASTFRAP_BLAKE2S_MESSAGE_LENGTH = 10 /* msg_len is over 4,294,967,295 */
+};
+
+/*
+ * Writes the hash of the message, out_len bytes long, to out; key_len 0 is no key.
+ * If the call is refused, no byte of out is changed. out overlaps neither key nor msg.
+ */
+uint32_t mastfrap_blake2s(const uint8_t *key, size_t key_len, const uint8_t *msg, size_t msg_len,
+                          uint8_t *out, size_t out_len);
+
+/* ---- libclient.a */
+
+enum {
+    MASTFRAP_CLIENT_ACCEPTED = 0,
+    MASTFRAP_CLIENT_FRAME_ROOM = 3,       /* room_len is under 129 (making only) */
+    MASTFRAP_CLIENT_PROGRAM_LENGTH = 40,  /* program_len is 0 or over 131,072 */
+    MASTFRAP_CLIENT_FRAME_ID = 41,        /* id is over 3 */
+    MASTFRAP_CLIENT_FRAME_NUMBER = 42,    /* k is over ceil(program_len / 127) */
+    MASTFRAP_CLIENT_UNEXPECTED_REPLY = 43 /* the reply is not the expected one (reading only) */
+};
+
+enum {
+    MASTFRAP_PROGRAM_MOST = 131072, /* the longest program; a head with less RAM takes less */
+    MASTFRAP_BLOCK_BYTES = 127,     /* how many bytes of the program a block carries */
+    MASTFRAP_FRAME_BYTES = 129,     /* a command frame, and the longest reply */
+    MASTFRAP_USS_BYTES = 32,
+    MASTFRAP_DIGEST_BYTES = 32
+};
+
+/*
+ * To load a head: for k from 0 to ceil(program_len / 127) make frame k, send it, and read the reply
+ * before the next. Frame 0 is the load, and frame k the k-th block of 127 program bytes. The reply
+ * has 5 bytes, and that to the last frame 129.
+ */
+
+/*
+ * Writes command frame k of the program, for the firmware and with this frame ID, to the first 129
+ * bytes of room; what the program does not fill is zero, and the rest of room stays. If used is
+ * not 0, the program gets the user secret: the load has flag 1 and the 32 bytes at uss, which may
+ * be all zero. If used is 0, it has flag 0 and 32 zeros, whatever is at uss.
+ * If the call is refused, no byte of room is changed.
+ *
+ * More that the proof takes the caller's word for: uss is good for 32 bytes, also where it is not
+ * used. room overlaps neither program nor uss.
+ */
+uint32_t mastfrap_make_frame(const uint8_t *program, size_t program_len, uint8_t id, uint8_t used,
+                             const uint8_t uss[MASTFRAP_USS_BYTES], uint32_t k, uint8_t *room,
+                             size_t room_len);
+
+/*
+ * Reads the reply to command frame k of a program of program_len bytes. It is taken exactly when it
+ * is one whole frame with bits 7 and 2 of its header zero, the same frame ID, endpoint 2, the code
+ * and length that frame k asks for, a status of 0 or 1, and zeros in what is left.
+ *
+ * If it is taken, *status is the status, and digest the program's digest as the head measured it if
+ * frame k is the last, or else 32 zeros. Status 1 for the load says that the head has not the RAM
+ * for this program, and goes on waiting. If the call is refused, *status and digest are not changed.
+ *
+ * More that the proof takes the caller's word for: digest is good for 32 bytes. status, digest and
+ * reply do not overlap.
+ */
+uint32_t mastfrap_read_reply(size_t program_len, uint8_t id, uint32_t k, const uint8_t *reply,
+                             size_t reply_len, uint8_t *status,
+                             uint8_t digest[MASTFRAP_DIGEST_BYTES]);
+
+#ifdef __cplusplus
+}
+#endif
+
+#endif
