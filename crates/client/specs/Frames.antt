@@ -26,10 +26,10 @@ refusal n id k =
     (cond (ltb 3 id) 41
     (cond (ltb (blocksFor n) k) 42 0))
 
+-- ---- a frame: unfilled bytes are zero
+
 abbrev pub secretOf : Bool → List ℕ → Secret
 secretOf used uss = record { used = used; uss = uss }
-
--- ---- a frame: unfilled bytes are zero
 
 unfoldable pub commandHeader : ℕ → ℕ
 commandHeader id = written (headerByte id firmware 128)
@@ -68,6 +68,7 @@ makingAs number room = record { number = number; room = room }
 abbrev pub makingOf : Answer → List ℕ → Making
 makingOf a room = makingAs (numberOf a) room
 
+-- a room under 129 bytes comes before the others
 abbrev pub makeRefusal : ℕ → ℕ → ℕ → ℕ → ℕ
 makeRefusal room n id k = cond (ltb room 129) 3 (refusal n id k)
 

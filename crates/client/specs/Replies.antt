@@ -1,4 +1,4 @@
--- The head's replies as the server takes them: change request 1.
+-- The head's replies as the server takes them: change request 1, "The server's half".
 use Prim.Native.Nat.{ℕ, _+_, _-_}
 use mathlib.Core.Bool.{Bool, true, false, cond, _&&_}
 use mathlib.Core.List.{List, [], _∷_}
@@ -12,7 +12,7 @@ use Rattle.client.specs.Frames.{refusal}
 use Rattle.client.specs.declared.Taken.{Taken}
 use Rattle.client.specs.declared.replies.Expected.{Expected}
 
--- code, body length, and how many bytes of a digest come after the status: to the load, to a block and to the last block of n bytes
+-- the reply to frame k of a program of n bytes: its code, its body's length, and how many bytes of a digest come after the status
 abbrev pub expectedReply : ℕ → ℕ → Expected
 expectedReply n k =
     cond (eqb k 0) (record { code = 0x04; len = 4; digest = 0 })
@@ -28,7 +28,7 @@ abbrev pub allZero : List ℕ → Bool
 allZero [] = true
 allZero (b ∷ bs) = eqb b 0 && allZero bs
 
--- the bytes of a reply: header, code, status, the digest of the last, and filler
+-- a reply is header, code, status, the digest if it is the last one's, and filler
 abbrev pub codeIn : List ℕ → ℕ
 codeIn r = getD r 1 0
 
@@ -67,13 +67,10 @@ takingOf t = takingAs (numberOf (t .answer)) (t .status) (t .digest)
 
 -- a refused reading gives neither status nor digest
 abbrev pub refusedWith : ℕ → Taking
-refusedWith k = record { number = k; status = 0; digest = replicate 32 0 }
+refusedWith k = takingAs k 0 (replicate 32 0)
 
 abbrev pub takenAs : Expected → ℕ → List ℕ → Taking
-takenAs x id r =
-    cond (isExpected x id r)
-    (record { number = 0; status = statusIn r; digest = digestIn x r })
-    (refusedWith 43)
+takenAs x id r = cond (isExpected x id r) (takingAs 0 (statusIn r) (digestIn x r)) (refusedWith 43)
 
 unfoldable pub taking : ℕ → ℕ → ℕ → List ℕ → Taking
 taking n id k r =

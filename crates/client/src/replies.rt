@@ -17,6 +17,7 @@ pub struct Expected {
     pub digest: usize,
 }
 
+// The reply to frame k of a program of this size.
 pub fn reply_to(size: u32, k: u32) -> Expected
     ensures { λ r. ⌜ r ≡ expectedReply size k ⌝ }
 {
@@ -55,6 +56,7 @@ fn header_is(b: u8, id: u8, len: usize) -> bool
     }
 }
 
+// Whether every byte is zero.
 fn all_zero(bytes: &[u8]) -> bool
     ensures { λ r. ⌜ r ≡ allZero (now (bytes .entry)) ⌝ }
 {

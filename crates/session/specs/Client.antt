@@ -1,6 +1,6 @@
 -- The server's half against the head: change request 1. The frames are those that the promise of `make_frame` cites, the replies are read as that of
 -- `read_reply` says, and the head is a session of specs/Session.antt. The proof is `client-load` in proofs/Client.antt.
-use Prim.Native.Nat.{ℕ, zero, suc, _+_, _-_, _/_, _%_, _<_, _≤_}
+use Prim.Native.Nat.{ℕ, zero, suc, _/_, _%_, _<_, _≤_}
 use mathlib.Core.Path.{_≡_}
 use mathlib.Core.Logic.{_↔_, _⊎_}
 use mathlib.Core.Bool.{true, false, cond}
