@@ -8,11 +8,11 @@ use lib.Dec.{eqb, leb}
 use lib.ListN.{length, getD, take, drop, replicate, length-take, length-drop, length-append, length-replicate, take-append-drop}
 use lib.Seq.{take-all, take-at, drop-at}
 use borrow.Author.Tests.{eq-eqb, ne-eqb, eqb-true, eqb-false, le-leb, leb-true, le-ltb}
-use Rattle.framing.specs.Header.{Reading, good, stop, headerAt, headerByte, codeOf, inField, frameId}
-use Rattle.framing.proofs.Headers.{headers, by-bits}
-use Rattle.framing.proofs.Headers as framing
+use Rattle.framing.specs.Header.{Reading, good, stop, headerAt, headerByte}
+use Rattle.framing.proofs.Headers.{headers, fields-of}
 use Rattle.protocol.specs.Commands.{firmware, blocksFor, isLast}
 use Rattle.protocol.specs.Replies.{written, replyHeader, filled, sent, loadReply, blockReply, digestReply}
+use Rattle.protocol.proofs.Proved.{header-of}
 use Rattle.client.specs.Answers.{numberOf}
 use Rattle.client.specs.Frames.{refusal, commandHeader, sizeBytes, loadBody, blockBody, commandBody}
 use Rattle.client.specs.Replies.{expectedReply, headerIs, allZero, digestIn, isExpected, Taking, takingAs, takenAs, refusedWith, taking}
@@ -61,12 +61,6 @@ body-length program s k l = go (eqb k 0) (s .used)
     go true true = filled-length 128 (0x03 ∷ sizeBytes (length program) ++ 1 ∷ s .uss) (omega arith)
     go true false = refl
     go false u = filled-length 128 (0x05 ∷ take 127 (drop (127 * (k - 1)) program)) (let t = length-take 127 (drop (127 * (k - 1)) program) in omega arith)
-
--- the writer gives the header of a frame ID and one of the lengths, and it reads as such
-header-of : (id n : ℕ) → id ≤ 3 → codeOf n < 4 → headerAt (written (headerByte id firmware n)) ≡ good id firmware n
-header-of id n h c =
-    let w = framing.written id 2 n (omega arith) (omega arith) c in
-    rw w (headers .exact _ id 2 n .1 w .1)
 
 command-header : (id : ℕ) → id ≤ 3 → headerAt (commandHeader id) ≡ good id firmware 128
 unfolding commandHeader
@@ -179,16 +173,10 @@ takes n id k r l = go (refusal n id k) refl (eqb (refusal n id k) 0) refl (isExp
 
 -- ---- the replies of `protocol`
 
--- the frame ID that a good header gives
-id-is : (h id ep n : ℕ) → headerAt h ≡ good id ep n → inField frameId h ≡ id
-id-is h id ep n =
-    by-bits h (λ (r : Reading). r ≡ good id ep n → inField frameId h ≡ id) (λ p q e. cc)
-    (λ g e. absurd (let w : _≡_ {A = ℕ} 0 1 = cc in omega arith))
-
 -- the header of a reply to a command has the command's ID
 reply-header : (id n : ℕ) → id ≤ 3 → replyHeader (commandHeader id) n ≡ written (headerByte id firmware n)
 unfolding replyHeader
-reply-header id n h = ap (λ (i : ℕ). written (headerByte i firmware n)) (id-is (commandHeader id) id firmware 128 (command-header id h))
+reply-header id n h = ap (λ (i : ℕ). written (headerByte i firmware n)) (fields-of (commandHeader id) id firmware 128 (command-header id h) .0)
 
 to-load : (n id : ℕ) (g : Bool) → refusal n id 0 ≡ 0
     → taking n id 0 (sent (loadReply (commandHeader id) g)) ≡ takingAs 0 (cond g 0 1) (replicate 32 0)

@@ -10,7 +10,7 @@ use native.Mathlib.Omega.{arith}
 use lib.Dec.{eqb, ltb}
 use lib.ListN.{length, getD}
 use borrow.Author.Tests.{eq-eqb, eqb-true, eqb-false, lt-ltb, ltb-true, ltb-false}
-use Rattle.framing.specs.Header.{indexOf, lengthOf, codeOf, Reading, good, stop, Writing, byte, refused, headerAt, headerByte}
+use Rattle.framing.specs.Header.{indexOf, lengthOf, codeOf, Reading, good, stop, Writing, byte, refused, headerAt, headerByte, inField, frameId, endpoint}
 use Rattle.framing.specs.Answers.{readingOf, writingOf}
 use Rattle.framing.specs.Theorems.{Headers, bit}
 use Rattle.framing.specs.declared.Header.{Header}
@@ -119,6 +119,11 @@ module _ (b : ℕ) where
       go true true p q = f (eqb-true (b / 128 % 2) 0 p) (eqb-true (b / 4 % 2) 0 q)
       go true false p q = g (inr (omega (arith, eqb-false (b / 4 % 2) 0 q)))
       go false y p q = g (inl (omega (arith, eqb-false (b / 128 % 2) 0 p)))
+
+-- the fields of a good byte
+pub fields-of : (b id ep n : ℕ) → headerAt b ≡ good id ep n → (inField frameId b ≡ id) × (inField endpoint b ≡ ep)
+fields-of b id ep n =
+    by-bits b (λ (x : Reading). x ≡ good id ep n → (inField frameId b ≡ id) × (inField endpoint b ≡ ep)) (λ p q e. (cc, cc)) (λ g e. apart (cc))
 
 -- a good byte is written again from what it says
 write-read : (b id ep n : ℕ) → b < 256 → headerAt b ≡ good id ep n → headerByte id ep n ≡ byte b

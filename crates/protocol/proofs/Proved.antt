@@ -11,11 +11,12 @@ use lib.Dec.{leb}
 use lib.ListN.{length, take, length-take, length-append, length-replicate}
 use lib.Seq.{take-at}
 use borrow.Author.Tests.{eq-eqb, eqb-true, eqb-false, le-leb, leb-true}
-use Rattle.framing.specs.Header.{good, headerAt, codeOf, frameId, inField}
-use Rattle.framing.proofs.Headers.{headers, written}
+use Rattle.framing.specs.Header.{good, headerAt, headerByte, codeOf, frameId, inField}
+use Rattle.framing.proofs.Headers.{headers}
+use Rattle.framing.proofs.Headers as framing
 use Rattle.blake2s.specs.Rfc7693.{word}
-use Rattle.protocol.specs.Commands.{loadIn, blocksFor, placeOf, countIn, isLast}
-use Rattle.protocol.specs.Replies.{replyHeader, replyWith, filled, nameReply, udiReply, loadReply, blockReply, digestReply}
+use Rattle.protocol.specs.Commands.{firmware, loadIn, blocksFor, placeOf, countIn, isLast}
+use Rattle.protocol.specs.Replies.{written, replyHeader, replyWith, filled, nameReply, udiReply, loadReply, blockReply, digestReply}
 use Rattle.protocol.specs.Theorems.{Protocol, Framed, loadWith}
 
 fields : (h command flag : ℕ) (size uss rest : List ℕ) → length size ≡ 4 → length uss ≡ 32
@@ -47,11 +48,15 @@ last-block n k h e =
     let d : (n + 126) / 127 ≡ k + 1 = eqb-true (blocksFor n) (k + 1) e in
     omega arith
 
+-- a header for the firmware reads as it was written
+pub header-of : (id n : ℕ) → id ≤ 3 → codeOf n < 4 → headerAt (written (headerByte id firmware n)) ≡ good id firmware n
+header-of id n h c =
+    let w = framing.written id 2 n (omega arith) (omega arith) c in
+    rw w (headers .exact _ id 2 n .1 w .1)
+
 reply-header : (h n : ℕ) → codeOf n < 4 → headerAt (replyHeader h n) ≡ good (inField frameId h) 2 n
 unfolding replyHeader
-reply-header h n c =
-    let w = written (h / 32 % 4) 2 n (omega arith) (omega arith) c in
-    rw w (headers .exact _ (h / 32 % 4) 2 n .1 w .1)
+reply-header h n c = header-of (h / 32 % 4) n (omega arith) c
 
 of-length : (h n : ℕ) → (n ≡ 4) ⊎ ((n ≡ 32) ⊎ (n ≡ 128)) → headerAt (replyHeader h n) ≡ good (inField frameId h) 2 n
 of-length h n (inl e) = reply-header h n (rw e (omega arith))

@@ -10,7 +10,7 @@ use lib.ListN.{length, getD, take, drop, replicate, length-take, length-drop, ta
 use lib.Seq.{take-append-add, take-append-seam, take-all, drop-at}
 use borrow.Author.Tests.{eq-eqb, ne-eqb, le-leb}
 use Rattle.framing.specs.Header.{good, headerAt, inField, endpoint}
-use Rattle.framing.proofs.Headers.{headers}
+use Rattle.framing.proofs.Headers.{headers, fields-of}
 use Rattle.blake2s.specs.Rfc7693.{word, blake2s}
 use Rattle.protocol.specs.Commands.{firmware, loadIn, goodLoad, carriedBy, blocksFor}
 use Rattle.protocol.specs.Replies.{written, filled}
@@ -24,7 +24,7 @@ use Rattle.session.specs.Reading.{All, Good, joined, own, GoodLoad, Bloc
 use Rattle.session.specs.Reading as shape
 use Rattle.session.specs.Client.{Bytes, frame, framesTo, frames, Made, IsLoad, IsBlock, ReadAs}
 use Rattle.session.proofs.Frames.{All-append, own-more}
-use Rattle.session.proofs.Gathering.{length-snoc, ep-is}
+use Rattle.session.proofs.Gathering.{length-snoc}
 use Rattle.session.proofs.Shapes.{carried-snoc}
 use Rattle.session.proofs.Strings.{rebuilt}
 
@@ -67,7 +67,7 @@ module _ (prog : List ℕ) (id : ℕ) (secret : Secret) (made : Made prog id sec
   frame-header = client .header id id-small
 
   pub is-own : eqb (inField endpoint (commandHeader id)) firmware ≡ true
-  is-own = eq-eqb (inField endpoint (commandHeader id)) firmware (ep-is (commandHeader id) id firmware 128 frame-header)
+  is-own = eq-eqb (inField endpoint (commandHeader id)) firmware (fields-of (commandHeader id) id firmware 128 frame-header .1)
 
   pub whole : (k : ℕ) → length (frame prog id secret k) ≡ 129
   whole k = client .frame prog id secret k (made .uss-length)

@@ -8,7 +8,7 @@ use lib.Dec.{eqb, ltb}
 use lib.ListN.{length, set, drop, length-append}
 use borrow.Author.Tests.{ne-eqb, ltb-true, ltb-false}
 use Rattle.framing.specs.Header.{Reading, good, stop, headerAt, inField, endpoint}
-use Rattle.framing.proofs.Headers.{by-bits}
+use Rattle.framing.proofs.Headers.{by-bits, fields-of}
 use Rattle.loader.specs.State.{zeros, bodyLen, idle}
 use Rattle.loader.specs.Machine.{withByte, gathered}
 use Rattle.loader.proofs.Ranges.{body-small, length-some}
@@ -53,12 +53,6 @@ set-next [] (y ∷ z) b l = refl
 set-next (x ∷ p) [] b l = absurd (omega arith)
 set-next (x ∷ p) (y ∷ z) b l = ap (λ (r : List ℕ). x ∷ r) (set-next p z b (omega arith))
 
--- the endpoint that a good header gives
-pub ep-is : (h id ep n : ℕ) → headerAt h ≡ good id ep n → inField endpoint h ≡ ep
-ep-is h id ep n =
-    by-bits h (λ (r : Reading). r ≡ good id ep n → inField endpoint h ≡ ep) (λ p q e. cc)
-    (λ g e. absurd (let w : _≡_ {A = ℕ} 0 1 = cc in omega arith))
-
 pub bad-is : (h : ℕ) (k : ℕ) → headerAt h ≡ stop k → headerAt h ≡ stop 22
 bad-is h k =
     by-bits h (λ (r : Reading). r ≡ stop k → r ≡ stop 22) (λ p q e. absurd (let w : _≡_ {A = ℕ} 0 1 = cc in omega arith)) (λ g e. refl)
@@ -90,7 +84,7 @@ with-byte h p b l = go (forFirmware (h ∷ []))
 more : (h : ℕ) (p : List ℕ) (b : ℕ) (v : Begins h p) → Gathers (h ∷ p) b (gathered (holding (h ∷ p)) b)
 unfolding gathered
 more h p b v =
-    rw (ne-eqb (length p + 1) 0 (λ z. omega arith), v .header, ← ep-is h (v .id) (v .ep) (v .n) (v .header), with-byte h p b fits)
+    rw (ne-eqb (length p + 1) 0 (λ z. omega arith), v .header, ← fields-of h (v .id) (v .ep) (v .n) (v .header) .1, with-byte h p b fits)
     (go (ltb (length p + 1) (v .n)) refl (eqb (inField endpoint h) 2) refl)
   where
     fits : length p < 128
