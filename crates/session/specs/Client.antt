@@ -44,42 +44,10 @@ module _ (program : List ℕ) (id : ℕ) (secret : Secret) where
   abbrev pub programDigest : List ℕ
   programDigest = blake2s [] program 32
 
-  -- the digest that the reply to frame k gives: the program's with the last one, and otherwise none, which is zeros
-  abbrev pub digestAt : ℕ → List ℕ
-  digestAt k = cond (eqb k (blocksFor (length program))) programDigest (replicate 32 0)
-
   -- a program, an ID and a secret that no call refuses; that a secret has 32 bytes is its type in the code
   pub record Made : Type 0 where
     pub accepted : refusal (length program) id 0 ≡ 0
     pub uss-length : length (secret .uss) ≡ 32
-
-  -- a session of a fresh head of type 4 or 5 in which it received these frames and no call was refused: RAM has room for the program, and type 5
-  -- requires its digest
-  pub record Heard (S : Session) : Type 0 where
-    pub fits : length program ≤ S .ramLen
-    pub allowed : Allowed (S .rec) programDigest
-    pub bytes : receivedBytes (allOf S) ≡ joined frames
-    pub none-refused : acceptedOf S ≡ allOf S
-
-  -- what a call leaves in its room, where it is call i from 0, and so received byte i % 129 of frame i / 129
-  pub record Replied (i : ℕ) (e : Entry) : Type 0 where
-    -- a reply comes with the last byte of a frame and with no other
-    pub silent : (i % 129 ≡ 128 → ⊥) → e .out .reply ≡ 0
-    -- the client takes it as the reply to that frame, with status 0
-    pub taken : i % 129 ≡ 128 → taking (length program) id (i / 129) (take (e .out .reply) (e .out .room)) ≡ takingAs 0 0 (digestAt (i / 129))
-
-  pub record Loads (S : Session) : Type 0 where
-    -- the head starts at the last byte of the last frame, and not before
-    pub start : Start S
-    pub before : List Entry
-    pub last : allOf S ≡ before ++ start .entry ∷ []
-    pub not-before : hasEnded before ≡ false
-    -- with this program at the front of RAM, and this user secret or none in the string of the CDI
-    pub report : start .entry .out .report ≡ started 0x40000000 (length program)
-    pub front : take (length program) (start .entry .out .ram) ≡ program
-    pub cdi : start .entry .out .cdi
-        ≡ blake2s [] (cdiString (bytes (start .entry .call .uds)) (chained (S .rec)) (measuredId (S .rec)) programDigest (secret .used) (secret .uss)) 32
-    pub replies : (e : Entry) (i : Among e (allOf S)) → Replied (length (i .before)) e
 
   -- ---- the frames by document 01's reading
 
@@ -100,6 +68,40 @@ module _ (program : List ℕ) (id : ℕ) (secret : Secret) where
   pub record ReadAs : Type 0 where
     pub load : (f : List ℕ) → Bytes f → (f ≡ frame 0) ↔ IsLoad f
     pub block : (k : ℕ) (f : List ℕ) → Bytes f → (f ≡ frame (suc k)) ↔ IsBlock k f
+
+  -- ---- the frames on a head
+
+  -- a session of a fresh head of type 4 or 5 in which it received these frames and no call was refused: RAM has room for the program, and type 5
+  -- requires its digest
+  pub record Heard (S : Session) : Type 0 where
+    pub fits : length program ≤ S .ramLen
+    pub allowed : Allowed (S .rec) programDigest
+    pub bytes : receivedBytes (allOf S) ≡ joined frames
+    pub none-refused : acceptedOf S ≡ allOf S
+
+  -- the digest that the reply to frame k gives: the program's with the last one, and otherwise none, which is zeros
+  abbrev pub digestAt : ℕ → List ℕ
+  digestAt k = cond (eqb k (blocksFor (length program))) programDigest (replicate 32 0)
+
+  -- what a call leaves in its room, where it is call i from 0, and so received byte i % 129 of frame i / 129
+  pub record Replied (i : ℕ) (e : Entry) : Type 0 where
+    -- a reply comes with the last byte of a frame and with no other
+    pub silent : (i % 129 ≡ 128 → ⊥) → e .out .reply ≡ 0
+    -- the client takes it as the reply to that frame, with status 0
+    pub taken : i % 129 ≡ 128 → taking (length program) id (i / 129) (take (e .out .reply) (e .out .room)) ≡ takingAs 0 0 (digestAt (i / 129))
+
+  pub record Loads (S : Session) : Type 0 where
+    -- the head starts at the last byte of the last frame, and not before; what every start gives (`Gives`) holds of this one
+    pub start : Start S
+    pub before : List Entry
+    pub last : allOf S ≡ before ++ start .entry ∷ []
+    pub not-before : hasEnded before ≡ false
+    -- with this program at the front of RAM, and this user secret or none in the string of the CDI
+    pub report : start .entry .out .report ≡ started 0x40000000 (length program)
+    pub front : take (length program) (start .entry .out .ram) ≡ program
+    pub cdi : start .entry .out .cdi
+        ≡ blake2s [] (cdiString (bytes (start .entry .call .uds)) (chained (S .rec)) (measuredId (S .rec)) programDigest (secret .used) (secret .uss)) 32
+    pub replies : (e : Entry) (i : Among e (allOf S)) → Replied (length (i .before)) e
 
 pub record ClientLoad : Type 0 where
   pub reads : (program : List ℕ) (id : ℕ) (secret : Secret) → Made program id secret → ReadAs program id secret
