@@ -14,7 +14,7 @@ use Rattle.protocol.specs.Commands.{firmware, blocksFor, isLast}
 use Rattle.protocol.specs.Replies.{written, replyHeader, filled, sent, loadReply, blockReply, digestReply}
 use Rattle.protocol.proofs.Proved.{header-of}
 use Rattle.client.specs.Answers.{numberOf}
-use Rattle.client.specs.Frames.{refusal, commandHeader, sizeBytes, loadBody, blockBody, commandBody}
+use Rattle.client.specs.Frames.{refusal, secretOf, commandHeader, sizeBytes, loadBody, blockBody, commandBody, commandFrame}
 use Rattle.client.specs.Replies.{expectedReply, headerIs, allZero, digestIn, isExpected, Taking, takingAs, takenAs, refusedWith, taking}
 use Rattle.client.specs.Theorems.{Expects, Client}
 use Rattle.client.proofs.Numbers.{Given, given}
@@ -65,6 +65,12 @@ body-length program s k l = go (eqb k 0) (s .used)
 command-header : (id : ℕ) → id ≤ 3 → headerAt (commandHeader id) ≡ good id firmware 128
 unfolding commandHeader
 command-header id h = header-of id 128 h (omega arith)
+
+example : (commandFrame (0xaa ∷ []) 1 (secretOf true (replicate 32 0xbb)) 0 ≡ 0x33 ∷ 0x03 ∷ 1 ∷ 0 ∷ 0 ∷ 0 ∷ 1 ∷ replicate 32 0xbb ++ replicate 90 0)
+    × (commandFrame (0xaa ∷ []) 1 (secretOf false (replicate 32 0xbb)) 0 ≡ 0x33 ∷ 0x03 ∷ 1 ∷ replicate 126 0)
+    × (commandFrame (0xaa ∷ []) 1 (secretOf false (replicate 32 0xbb)) 1 ≡ 0x33 ∷ 0x05 ∷ 0xaa ∷ replicate 126 0)
+unfolding commandHeader headerByte loadBody blockBody
+example = (refl, refl, refl)
 
 -- ---- a reply that is expected
 
@@ -226,6 +232,7 @@ client =
           (λ z. let g = given n id k z in (g .some, g .small, g .id-small, g .frame), λ g. not-refused n id k (record { some = g .0; small = g .1; id-small = g .2; frame = g .3 }));
       frame = λ program id s k l. ap suc (body-length program s k l);
       header = command-header;
+      example = example;
       takes = λ n id k r l. (takes n id k r l, λ e. ap (λ (t : Taking). t .number) (gives n id k r (e .0) (e .1)));
       gives = gives;
       to-load = to-load;

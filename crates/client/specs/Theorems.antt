@@ -3,13 +3,13 @@ use Prim.Native.Nat.{ℕ, _^_, _-_, _<_, _≤_}
 use mathlib.Core.Path.{_≡_}
 use mathlib.Core.Logic.{_↔_}
 use mathlib.Core.Bool.{Bool, true, false, cond}
-use mathlib.Core.List.{List, _∷_}
+use mathlib.Core.List.{List, [], _∷_, _++_}
 use lib.ListN.{length, getD, replicate}
 use Rattle.framing.specs.Header.{good, headerAt, headerByte}
 use Rattle.protocol.specs.Commands.{firmware, blocksFor, isLast}
 use Rattle.protocol.specs.Replies.{written, filled, sent, loadReply, blockReply, digestReply}
 use Rattle.client.specs.Answers.{numberOf}
-use Rattle.client.specs.Frames.{refusal, commandHeader, commandFrame}
+use Rattle.client.specs.Frames.{refusal, secretOf, commandHeader, commandFrame}
 use Rattle.client.specs.Replies.{expectedReply, takingAs, taking}
 use Rattle.client.specs.declared.Answer.{Answer}
 use Rattle.client.specs.declared.Secret.{Secret}
@@ -31,6 +31,10 @@ pub record Client : Type 0 where
   -- a frame has 129 bytes; its header reads as the frame ID, endpoint 2 and a body of 128
   pub frame : (program : List ℕ) (id : ℕ) (s : Secret) (k : ℕ) → length (s .uss) ≡ 32 → length (commandFrame program id s k) ≡ 129
   pub header : (id : ℕ) → id ≤ 3 → headerAt (commandHeader id) ≡ good id firmware 128
+  -- the frames of a program of one byte with ID 1, as literal bytes: the load with a user secret and with none, and the block
+  pub example : (commandFrame (0xaa ∷ []) 1 (secretOf true (replicate 32 0xbb)) 0 ≡ 0x33 ∷ 0x03 ∷ 1 ∷ 0 ∷ 0 ∷ 0 ∷ 1 ∷ replicate 32 0xbb ++ replicate 90 0)
+      × (commandFrame (0xaa ∷ []) 1 (secretOf false (replicate 32 0xbb)) 0 ≡ 0x33 ∷ 0x03 ∷ 1 ∷ replicate 126 0)
+      × (commandFrame (0xaa ∷ []) 1 (secretOf false (replicate 32 0xbb)) 1 ≡ 0x33 ∷ 0x05 ∷ 0xaa ∷ replicate 126 0)
   -- a reply is taken exactly when it is the expected one, and then its status is given, and the digest if it has one
   pub takes : (n id k : ℕ) (r : List ℕ) → getD r 0 0 < 2 ^ 8
       → (taking n id k r .number ≡ 0) ↔ ((refusal n id k ≡ 0) × Expects (expectedReply n k) id r)
