@@ -20,20 +20,21 @@ uint32_t plain_make_frame(const uint8_t *program, size_t len, uint8_t id, uint8_
     uint32_t no = check(len, id, k);
     if (no != 0)
         return no;
-    memset(room, 0, MASTFRAP_FRAME_BYTES);
     room[0] = (uint8_t)(id << 5 | 2 << 3 | 3);
-    if (k == 0) {
-        room[1] = 0x03;
-        for (int i = 0; i < 4; i++)
-            room[2 + i] = (uint8_t)(len >> 8 * i);
-        if (used) {
-            room[6] = 1;
-            memcpy(room + 7, uss, 32);
-        }
-    } else {
-        size_t from = 127 * (size_t)(k - 1), left = len - from;
+    if (k != 0) {
+        size_t from = 127 * (size_t)(k - 1), left = len - from, n = left < 127 ? left : 127;
         room[1] = 0x05;
-        memcpy(room + 2, program + from, left < 127 ? left : 127);
+        memcpy(room + 2, program + from, n);
+        memset(room + 2 + n, 0, 127 - n);
+        return 0;
+    }
+    memset(room + 1, 0, 128);
+    room[1] = 0x03;
+    for (int i = 0; i < 4; i++)
+        room[2 + i] = (uint8_t)(len >> 8 * i);
+    if (used) {
+        room[6] = 1;
+        memcpy(room + 7, uss, 32);
     }
     return 0;
 }
