@@ -188,8 +188,9 @@ to-load : (n id : ℕ) (g : Bool) → refusal n id 0 ≡ 0
     → taking n id 0 (sent (loadReply (commandHeader id) g)) ≡ takingAs 0 (cond g 0 1) (replicate 32 0)
 unfolding loadReply
 to-load n id g z =
+    let h = reply-header id 4 (given n id 0 z .id-small) in
     gives n id 0 (sent (loadReply (commandHeader id) g)) z
-    (record { status = cond g 0 1; digest = []; status-small = status-of g; digest-length = refl; bytes = ap (λ (h : ℕ). h ∷ 0x04 ∷ cond g 0 1 ∷ 0 ∷ 0 ∷ []) (reply-header id 4 (given n id 0 z .id-small)) })
+    (record { status = cond g 0 1; digest = []; status-small = status-of g; digest-length = refl; bytes = ap (λ (x : ℕ). x ∷ 0x04 ∷ cond g 0 1 ∷ 0 ∷ 0 ∷ []) h })
   where
     status-of : (g : Bool) → cond g 0 1 ≤ 1
     status-of true = omega arith
@@ -204,8 +205,9 @@ to-block : (n id k : ℕ) → refusal n id k ≡ 0 → 1 ≤ k → isLast n (k -
     → taking n id k (sent (blockReply (commandHeader id))) ≡ takingAs 0 0 (replicate 32 0)
 unfolding blockReply
 to-block n id k z l e =
+    let h = reply-header id 4 (given n id k z .id-small) in
     gives-as n id k (sent (blockReply (commandHeader id))) _ (to-block-is n k l false e) z
-    (record { status = 0; digest = []; status-small = omega arith; digest-length = refl; bytes = ap (λ (h : ℕ). h ∷ 0x06 ∷ 0 ∷ 0 ∷ 0 ∷ []) (reply-header id 4 (given n id k z .id-small)) })
+    (record { status = 0; digest = []; status-small = omega arith; digest-length = refl; bytes = ap (λ (x : ℕ). x ∷ 0x06 ∷ 0 ∷ 0 ∷ 0 ∷ []) h })
 
 to-last : (n id k : ℕ) (digest : List ℕ) → refusal n id k ≡ 0 → 1 ≤ k → isLast n (k - 1) ≡ true → length digest ≡ 32
     → taking n id k (sent (digestReply (commandHeader id) digest)) ≡ takingAs 0 0 digest

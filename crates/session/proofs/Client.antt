@@ -254,6 +254,10 @@ module _ (prog : List ℕ) (id : ℕ) (secret : Secret) (makes : Made prog id se
         whole : (before ++ c .byte ∷ []) ++ rest ≡ joined (frames prog id secret)
         whole = append-assoc before (c .byte ∷ []) rest ∙ e
 
+        -- where the byte is the last
+        all-there : rest ≡ [] → before ++ c .byte ∷ [] ≡ joined (frames prog id secret)
+        all-there j = sym (append-nil (before ++ c .byte ∷ [])) ∙ ap (λ (x : List ℕ). (before ++ c .byte ∷ []) ++ x) (sym j) ∙ whole
+
         go : After rec udi m c (before ++ c .byte ∷ []) (entryOf s c .out)
             → (Live rec udi m (before ++ c .byte ∷ []) (entryOf s c .out .state) (entryOf s c .out .ram) → (before ++ c .byte ∷ []) ++ rest ≡ joined (frames prog id secret)
             → Course (length (before ++ c .byte ∷ [])) (log (entryOf s c .out .state) cs))
@@ -262,12 +266,12 @@ module _ (prog : List ℕ) (id : ℕ) (secret : Secret) (makes : Made prog id se
             let k : length (before ++ c .byte ∷ []) ≡ suc (length before) = length-snoc before (c .byte) ∙ add-one (length before) in
             goes (length before) (entryOf s c) _ p
             (replied m fits rec udi c (before ++ c .byte ∷ []) rest (entryOf s c .out) (length before) k whole
-            (λ j. not-live rec udi m u (reading (before ++ c .byte ∷ []) (sym (append-nil (before ++ c .byte ∷ [])) ∙ ap (λ (w : List ℕ). (before ++ c .byte ∷ []) ++ w) (sym j) ∙ whole))) sd)
+            (λ j. not-live rec udi m u (reading (before ++ c .byte ∷ []) (all-there j))) sd)
             (subst (λ (j : ℕ). Course j (log (entryOf s c .out .state) cs)) k (f u whole))
         go (has-started w l d) f =
             let none : rest ≡ [] = d rest (reading ((before ++ c .byte ∷ []) ++ rest) whole) in
             subst (λ (es : List Entry). Course (length before) (entryOf s c ∷ es)) (sym (no-calls (log (entryOf s c .out .state) cs) none))
-            (started-with c before (entryOf s c .out) (sym (append-nil (before ++ c .byte ∷ [])) ∙ ap (λ (k : List ℕ). (before ++ c .byte ∷ []) ++ k) (sym none) ∙ whole) w l)
+            (started-with c before (entryOf s c .out) (all-there none) w l)
         go (has-stopped k p j d) f = absurd (d rest (reading ((before ++ c .byte ∷ []) ++ rest) whole))
 
   -- ---- the list

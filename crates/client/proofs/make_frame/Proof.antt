@@ -9,8 +9,12 @@ use Rattle.client.proofs.make_frame.Statement.{statement}
 use Rattle.client.proofs.make_frame.Tie as tie
 
 -- past the tests
-accepted : (m : tie.At-match-keys1) → refusal (length (m .before .before .before .before .before .args .program .now)) (m .before .before .before .before .before .args .id) (m .before .before .before .before .before .args .k) ≡ 0
-accepted m = sym (m .before .check .ensures) ∙ accepted-tag (m .before .check .result) (m .match .keys1)
+module _ (m : tie.At-match-keys1) where
+  abbrev start : tie.Start
+  start = m .before .before .before .before .before
+
+  accepted : refusal (length (start .args .program .now)) (start .args .id) (start .args .k) ≡ 0
+  accepted = sym (m .before .check .ensures) ∙ accepted-tag (m .before .check .result) (m .match .keys1)
 
 returns : tie.Need-returns
 unfolding making

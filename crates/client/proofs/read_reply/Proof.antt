@@ -14,8 +14,12 @@ use Rattle.client.proofs.read_reply.Statement.{statement}
 use Rattle.client.proofs.read_reply.Tie as tie
 
 -- past the tests of length, ID and number
-accepted : (m : tie.At-match-keys1) → refusal (m .before .before .before .args .len) (m .before .before .before .args .id) (m .before .before .before .args .k) ≡ 0
-accepted m = sym (m .before .check .ensures) ∙ accepted-tag (m .before .check .result) (m .match .keys1)
+module _ (m : tie.At-match-keys1) where
+  abbrev start : tie.Start
+  start = m .before .before .before
+
+  accepted : refusal (start .args .len) (start .args .id) (start .args .k) ≡ 0
+  accepted = sym (m .before .check .ensures) ∙ accepted-tag (m .before .check .result) (m .match .keys1)
 
 returns : tie.Need-returns
 unfolding taking
@@ -41,19 +45,21 @@ unfolding taking
 returns-2 c =
     let t = c .before .before in
     let m = t .before .before .before in
-    rw (c .refused2 .ensures, accepted m, ← (t .before .reply-to .ensures), ← (t .is-expected .ensures), not-true (t .is-expected .result) (c .before .if1 .taken))
+    let x = t .is-expected in
+    rw (c .refused2 .ensures, accepted m, ← (t .before .reply-to .ensures), ← (x .ensures), not-true (x .result) (c .before .if1 .taken))
 
 -- a reply that is expected
 module _ (i : tie.Else1) where
   abbrev expects : Expected
   expects = i .before .before .reply-to .result
 
-  fits : Fits expects
-  fits =
-      let a = i .before .before .before .before .before .before .before .args in
-      rw (i .before .before .reply-to .ensures) (expected-fits (a .len) (a .k))
+  abbrev begin : tie.Start
+  begin = start (i .before .before .before .before)
 
-  long : length (i .before .before .before .before .before .before .before .args .reply .now) ≡ 1 + expects .len
+  fits : Fits expects
+  fits = rw (i .before .before .reply-to .ensures) (expected-fits (begin .args .len) (begin .args .k))
+
+  long : length (begin .args .reply .now) ≡ 1 + expects .len
   long = whole-reply expects _ _ (sym (i .before .is-expected .ensures) ∙ not-false (i .before .is-expected .result) (i .if1 .left))
 
 shared-slice-read-t12 : tie.Need-shared-slice-read-t12
@@ -74,7 +80,8 @@ returns-3 c =
     let i = c .before .before in
     let t = i .before in
     let m = t .before .before .before in
-    rw (m .before .check .ensures, accepted m, c .digest-in .ensures, ← (t .before .reply-to .ensures), ← (t .is-expected .ensures), not-false (t .is-expected .result) (i .if1 .left))
+    let x = t .is-expected in
+    rw (m .before .check .ensures, accepted m, c .digest-in .ensures, ← (t .before .reply-to .ensures), ← (x .ensures), not-false (x .result) (i .if1 .left))
 
 pub read-reply-spec : {M : Type 1} → statement M
 read-reply-spec =
