@@ -126,7 +126,7 @@ static int reply(struct head *h, uint8_t *room, uint8_t code, int length_code, c
 static int load(struct head *h, uint8_t *room)
 {
     uint32_t size = number(h->body + 1);
-    uint8_t status = size == 0 || size > h->ram_len;
+    uint8_t status = size == 0 || size > h->ram_len || h->body[5] > 1;
 
     if (!status) {
         h->phase = LOADING;

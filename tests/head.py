@@ -156,11 +156,12 @@ class Head:
     def load(self, f, room, ram, words):
         message = bytes([f.header]) + f.body  # the document's positions count the header
         size = number(message[2:6])
-        good = 1 <= size <= self.ram
+        flag = message[6]
+        good = 1 <= size <= self.ram and flag in (0, 1)
         if good:
             self.phase = "loading"
             self.size = size
-            self.uss_used = message[6] == 1
+            self.uss_used = flag == 1
             self.uss = message[7:39]
         return Answer("W", reply=self.reply(f, room, 0x04, 4, bytes([0 if good else 1])))
 

@@ -19,6 +19,7 @@ UDS = bytes(range(0x10, 0x30))
 UDI = bytes(range(0xD0, 0xD8))
 USS = bytes(range(0xA0, 0xC0))
 FULL_RAM = 131072
+PROGRAM = bytes((5 * i + 1) % 256 for i in range(200))
 
 
 def blake2s(data):
@@ -88,10 +89,15 @@ def bad_sizes():
 
 
 def with_flag(flag):
-    """Flag 1 means that the user secret is used; any other flag means none. What comes after the start would stop the head."""
-    program = bytes((5 * i + 1) % 256 for i in range(200))
-    data = record(4) + UDS + UDI + load(len(program), flag, USS) + b"".join(blocks(program)) + b"\xff"
-    return data, [load_reply(0), *block_replies(program), start(program, USS if flag == 1 else b"")]
+    """Flag 0 means no user secret, flag 1 that it is used. What comes after the start would stop the head."""
+    data = record(4) + UDS + UDI + load(len(PROGRAM), flag, USS) + b"".join(blocks(PROGRAM)) + b"\xff"
+    return data, [load_reply(0), *block_replies(PROGRAM), start(PROGRAM, USS if flag == 1 else b"")]
+
+
+def flag_2():
+    """Any other flag gets status 1, and the head goes on waiting. Nothing of that load is in the start after the next one."""
+    heard = load(100, 2, USS[::-1]) + load(len(PROGRAM), 1, USS, frame_id=1) + b"".join(blocks(PROGRAM)) + b"\xff"
+    return record(4) + UDS + UDI + heard, [load_reply(1), load_reply(0, 1), *block_replies(PROGRAM), start(PROGRAM, USS)]
 
 
 def load_while_loading():
@@ -130,7 +136,7 @@ ITEMS = {
     "bad_sizes": bad_sizes(),
     "flag_0": with_flag(0),
     "flag_1": with_flag(1),
-    "flag_2": with_flag(2),
+    "flag_2": flag_2(),
     "load_while_loading": load_while_loading(),
     "name_with_body_4": name_with_body_4(),
 }

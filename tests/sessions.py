@@ -2,11 +2,12 @@
 import random
 from dataclasses import dataclass, field
 
-from head import PREFIX, PRINTER_RAM, ZEROS, Frame, blake2s
+from head import FIRMWARE, PREFIX, PRINTER_RAM, ZEROS, Frame, blake2s
 
 SIZES = [1, 126, 127, 128, 253, 254, 255, 381]
 LARGE_SIZES = [PRINTER_RAM - 1, PRINTER_RAM]
 BAD_SIZES = [0, PRINTER_RAM + 1, 131073, 2**32 - 1]
+FLAGS = [0, 1]
 STOPPING_TYPES = [0, 1, 2, 3, 6, 0x104, 0x01000004, 0x05000000, 2**32 - 1]
 COMMANDS = [0x01, 0x03, 0x05, 0x08]
 
@@ -30,7 +31,11 @@ def query(rng):
     return frame(rng, rng.choice([b"\x01", b"\x08"]))
 
 
-def load(rng, size, flag=1):
+def bad_flag(rng):
+    return rng.choice([2, 255, rng.randrange(2, 256)])
+
+
+def load(rng, size, flag):
     uss = rng.choice([ZEROS, rng.randbytes(32)])
     return frame(rng, b"\x03" + little(size) + bytes([flag]) + uss + rng.randbytes(90))
 
@@ -46,7 +51,7 @@ def command(rng, byte, lengths=(1, 4, 32, 128)):
 
 def for_others(rng):
     """A frame for another endpoint, whose body looks like a command."""
-    like = rng.choice([query(rng), load(rng, rng.randrange(1, 300)), block(rng, b""), command(rng, rng.randrange(256))])
+    like = rng.choice([query(rng), load(rng, rng.randrange(1, 300), rng.randrange(256)), block(rng, b""), command(rng, rng.randrange(256))])
     return frame(rng, like[1:], rng.choice([0, 1, 3]))
 
 
@@ -60,6 +65,7 @@ class Session:
     type: int = 4
     mask: int = 0
     flag: int = 0
+    bad_flags: int = 0  # how many loads with a bad flag and a good size come before the one that is to be taken
     program: bytes = b""
     required: bytes = ZEROS
     waiting: list = field(default_factory=list)  # frames before the load
@@ -79,7 +85,7 @@ class Session:
 def draw(rng, size):
     s = Session(type=rng.choice([4, 5]), program=rng.randbytes(size))
     s.mask = rng.choice([0, 1, 0xFFFFFFFE, 0xFFFFFFFF, rng.getrandbits(32)])
-    s.flag = rng.choice([0, 1, 1, 1, 2, 255, rng.randrange(256)])
+    s.flag = rng.choice(FLAGS)
     s.required = blake2s(s.program) if s.type == 5 else rng.randbytes(32)
     s.loading = [load(rng, size, s.flag)]
     s.loading += [block(rng, s.program[i : i + 127]) for i in range(0, size, 127)]
@@ -98,8 +104,14 @@ def queries(rng, s):
         insert(rng, s.waiting, query(rng))
 
 
-def bad_loads(rng, s):
-    insert(rng, s.waiting, load(rng, rng.choice(BAD_SIZES)))
+def bad_sizes(rng, s):
+    insert(rng, s.waiting, load(rng, rng.choice(BAD_SIZES), rng.randrange(256)))
+
+
+def bad_flags(rng, s):
+    s.bad_flags = rng.randint(1, 3)
+    for _ in range(s.bad_flags):
+        insert(rng, s.waiting, load(rng, rng.choice(SIZES + LARGE_SIZES), bad_flag(rng)))
 
 
 def others(rng, s):
@@ -123,6 +135,13 @@ def change(rng, s, edit):
 
 def stopping_type(rng, s):
     s.type = rng.choice([*STOPPING_TYPES, rng.getrandbits(32)])
+
+
+def flagged(rng, s):
+    """The load, which is the first of its frames for the firmware, gets a bad flag."""
+    s.flag = bad_flag(rng)
+    at = next(i for i, f in enumerate(s.loading) if Frame(f[0]).endpoint() == FIRMWARE)
+    s.loading[at] = load(rng, len(s.program), s.flag)
 
 
 def wrong_digest(rng, s):
@@ -166,7 +185,7 @@ def too_early(rng, s):
 
 
 def too_late(rng, s):
-    insert(rng, s.loading, rng.choice([query(rng), load(rng, 100), load(rng, 0), command(rng, 0x03)]), 1)
+    insert(rng, s.loading, rng.choice([query(rng), load(rng, 100, rng.choice(FLAGS)), load(rng, 0, rng.choice(FLAGS)), command(rng, 0x03)]), 1)
 
 
 def wrong_length(rng, s):
@@ -193,8 +212,8 @@ def short(rng, s):
     s.tail = b""
 
 
-HARMLESS = [queries, bad_loads, others, tail]
-HARMFUL = [stopping_type, wrong_digest, header_bit, other_byte, dropped_byte, doubled_byte, other_length, dropped_frame]
+HARMLESS = [queries, bad_sizes, bad_flags, others, tail]
+HARMFUL = [stopping_type, flagged, wrong_digest, header_bit, other_byte, dropped_byte, doubled_byte, other_length, dropped_frame]
 HARMFUL += [swapped_command, unknown, too_early, too_late, wrong_length, wrong_block_length, noise, cut, short]
 HARMFUL += [stopping_type, cut]
 

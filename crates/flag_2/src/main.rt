@@ -1,4 +1,4 @@
-// Document 01, "Shed bench": a load with flag 2 starts without its user secret.
+// Document 01, "Shed bench", by change request 2: a load with flag 2 gets status 1, and the head goes on waiting.
 fn main() {
     printer::play_with_full_ram();
 }

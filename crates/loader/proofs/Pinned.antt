@@ -28,7 +28,7 @@ digest-bytes d l = rw l (ap (λ (x : List ℕ). 0x73 ∷ 0x07 ∷ 0 ∷ x) (fron
 pub pins : Pins
 unfolding loadIn word recordAt nameReply loadReply blockReply replyHeader headerByte ended
 pins = record {
-  flags = (refl, refl, refl);
+  flags = (refl, refl, refl, refl, refl, refl);
   types = (refl, refl, refl, refl, refl, refl, refl, refl, refl);
   masks = (refl, refl, refl);
   name = refl;

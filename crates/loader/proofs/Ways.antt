@@ -4,9 +4,9 @@ use mathlib.Core.Bool.{true, false}
 use mathlib.Core.Path.{_≡_, refl}
 use mathlib.Core.List.{List, []}
 use native.Mathlib.Omega.{arith}
-use lib.Dec.{eqb, leb, ltb}
+use lib.Dec.{eqb, ltb}
 use lib.ListN.{length, getD}
-use borrow.Author.Tests.{eqb-true, eqb-false, ltb-true, lt-ltb, le-leb, leb-true, ne-eqb}
+use borrow.Author.Tests.{eqb-true, eqb-false, ltb-true, lt-ltb, le-leb, ne-eqb}
 use Rattle.framing.specs.Header.{Reading, good, stop, headerAt}
 use Rattle.protocol.specs.Commands.{isLast}
 use Rattle.protocol.specs.Replies.{sent, nameReply, udiReply, blockReply, digestReply, putIn}
@@ -16,7 +16,7 @@ use Rattle.protocol.specs.declared.Reply.{Reply}
 use Rattle.loader.specs.State.{bodyLen, incomingOk, loadingOk, progressIn, progressOk, live, ended}
 use Rattle.loader.specs.Answers.{stopped, continues, Outcome}
 use Rattle.loader.specs.Machine.{plain, stopping, starting, opened, continued, gathered, actionIn, between, replying, loaded, loadOf, takes, loadAnswer, afterLoad, nextBlock, allowed, finishedWith, actedBlock, performed, acted, refusal, withIncoming, afterByte, processed, refusing, step}
-use Rattle.loader.proofs.Ranges.{both, by-test, length-some, loading-facts, no-block, range-facts}
+use Rattle.loader.proofs.Ranges.{by-test, length-some, loading-facts, no-block, range-facts}
 use Rattle.loader.proofs.Steps.{admitted}
 use Rattle.loader.specs.declared.Phase.{Phase}
 use Rattle.loader.specs.declared.Phase.the-variants as phase
@@ -56,9 +56,8 @@ loaded-ok : (s : State) → takes s ≡ true → loadingOk (loaded (loadOf s)) (
 loaded-ok s e =
     let n = loadOf s .size in
     let m = s .config .«ram_len» in
-    let a = both (leb 1 n) (leb n m) e in
-    let h = leb-true 1 n (a .0) in
-    simp (a .0, a .1) (lt-ltb 0 ((n + 126) / 127) (omega arith))
+    let g = protocol .good-load m (loadOf s) .0 e in
+    simp (le-leb 1 n (g .some), le-leb n m (g .fits)) (lt-ltb 0 ((n + 126) / 127) (omega arith))
 
 -- a block that is not the last
 next-ok : (ph : Phase) (c n : ℕ) (p : Progress) (m : ℕ) → actionIn ph c n ≡ action.Block → progressIn ph p m ≡ true → isLast (p .size) (p .block) ≡ false

@@ -5,8 +5,9 @@ use mathlib.Core.Path.{_≡_}
 use mathlib.Core.Bool.{true, false}
 use mathlib.Core.List.{List, [], _∷_, _++_}
 use lib.ListN.{length, replicate}
-use Rattle.protocol.specs.Commands.{loadIn, usesUss}
+use Rattle.protocol.specs.Commands.{loadIn, goodLoad, usesUss}
 use Rattle.protocol.specs.Replies.{filled, sent, nameReply, udiReply, loadReply, blockReply, digestReply}
+use Rattle.protocol.specs.declared.Load.{Load}
 use Rattle.record.specs.Record.{recordAt}
 use Rattle.record.specs.declared.ResetType.{ResetType}
 use Rattle.record.specs.declared.ResetType.the-variants.{Flash0, Flash1, Flash0Ver, Flash1Ver, Client, ClientVer, Unknown}
@@ -15,9 +16,9 @@ use Rattle.loader.specs.Theorems.{Call}
 use Rattle.loader.specs.declared.Phase.{Phase}
 use Rattle.loader.specs.declared.State.{State}
 
--- the frame of a load of one byte, with a flag
-abbrev pub loadFrame : ℕ → List ℕ
-loadFrame flag = filled 129 (0x13 ∷ 0x03 ∷ 1 ∷ 0 ∷ 0 ∷ 0 ∷ flag ∷ [])
+-- a load of one byte, with a flag
+abbrev pub flagged : ℕ → Load
+flagged flag = loadIn (filled 129 (0x13 ∷ 0x03 ∷ 1 ∷ 0 ∷ 0 ∷ 0 ∷ flag ∷ []))
 
 -- the type of a record whose first four bytes are these
 abbrev pub typeOf : ℕ → ℕ → ℕ → ℕ → ResetType
@@ -28,8 +29,9 @@ abbrev pub masked : ℕ → ℕ → ℕ → ℕ → List ℕ
 masked a b c d = filled 256 (4 ∷ 0 ∷ 0 ∷ 0 ∷ a ∷ b ∷ c ∷ d ∷ [])
 
 pub record Pins : Type 0 where
-  -- flags 0, 1 and 2, in byte 6: flag 1 means that the user secret is used, any other that there is none
-  pub flags : (usesUss (loadIn (loadFrame 0)) ≡ false) × (usesUss (loadIn (loadFrame 1)) ≡ true) × (usesUss (loadIn (loadFrame 2)) ≡ false)
+  -- flags 0, 1, 2 and 255, in byte 6: 0 means that there is no user secret, 1 that it is used, and a load with another is not good
+  pub flags : (goodLoad 1 (flagged 0) ≡ true) × (usesUss (flagged 0) ≡ false) × (goodLoad 1 (flagged 1) ≡ true) × (usesUss (flagged 1) ≡ true)
+      × (goodLoad 1 (flagged 2) ≡ false) × (goodLoad 1 (flagged 255) ≡ false)
   -- types 0 to 6, and 0x01000004 and 0x00000104, of which the first byte is 4
   pub types : (typeOf 0 0 0 0 ≡ Flash0) × (typeOf 1 0 0 0 ≡ Flash1) × (typeOf 2 0 0 0 ≡ Flash0Ver) × (typeOf 3 0 0 0 ≡ Flash1Ver)
       × (typeOf 4 0 0 0 ≡ Client) × (typeOf 5 0 0 0 ≡ ClientVer) × (typeOf 6 0 0 0 ≡ Unknown) × (typeOf 4 0 0 1 ≡ Unknown) × (typeOf 4 1 0 0 ≡ Unknown)

@@ -1,10 +1,10 @@
 -- The theorem of specs/Theorems.antt: literal cases compute, fields after a list of known length are the parts there, and the numbers of
 -- blocks are arithmetic.
 use native.Mathlib.Numerals.{add-one}
-use Prim.Native.Nat.{ℕ, suc, _+_, _-_, _/_, _%_, _≤_, _<_}
+use Prim.Native.Nat.{ℕ, zero, suc, _+_, _-_, _/_, _%_, _≤_, _<_}
 use mathlib.Core.Path.{_≡_, refl, sym, ap, _∙_}
 use mathlib.Core.Logic.{_⊎_, inl, inr}
-use mathlib.Core.Bool.{Bool, true, false, _&&_}
+use mathlib.Core.Bool.{Bool, true, false, _&&_, and-eq-true-iff}
 use mathlib.Core.List.{List, [], _∷_, _++_}
 use native.Mathlib.Omega.{arith}
 use lib.Dec.{leb}
@@ -15,9 +15,10 @@ use Rattle.framing.specs.Header.{good, headerAt, headerByte, codeOf, frameId, i
 use Rattle.framing.proofs.Headers.{headers}
 use Rattle.framing.proofs.Headers as framing
 use Rattle.blake2s.specs.Rfc7693.{word}
-use Rattle.protocol.specs.Commands.{firmware, loadIn, blocksFor, placeOf, countIn, isLast}
+use Rattle.protocol.specs.Commands.{firmware, loadIn, goodLoad, blocksFor, placeOf, countIn, isLast}
 use Rattle.protocol.specs.Replies.{written, replyHeader, replyWith, filled, nameReply, udiReply, loadReply, blockReply, digestReply}
-use Rattle.protocol.specs.Theorems.{Protocol, Framed, loadWith}
+use Rattle.protocol.specs.Theorems.{Protocol, IsGood, Framed, loadWith}
+use Rattle.protocol.specs.declared.Load.{Load}
 
 fields : (h command flag : ℕ) (size uss rest : List ℕ) → length size ≡ 4 → length uss ≡ 32
     → loadIn (h ∷ command ∷ size ++ flag ∷ uss ++ rest) ≡ loadWith (word size 0) flag uss
@@ -29,13 +30,26 @@ fields h command flag (a ∷ b ∷ []) uss rest e l = absurd (omega arith)
 fields h command flag (a ∷ b ∷ c ∷ []) uss rest e l = absurd (omega arith)
 fields h command flag (a ∷ b ∷ c ∷ d ∷ x ∷ xs) uss rest e l = absurd (omega arith)
 
-good-size : (m n : ℕ) → leb 1 n && leb n m ≡ true → (1 ≤ n) × (n ≤ m)
-good-size m n = go (leb 1 n) (leb n m) refl refl
-  where
-    go : (x y : Bool) → leb 1 n ≡ x → leb n m ≡ y → x && y ≡ true → (1 ≤ n) × (n ≤ m)
-    go true true p q e = (leb-true 1 n p, leb-true n m q)
-    go true false p q e = absurd (let w : _≡_ {A = ℕ} 0 1 = cc in omega arith)
-    go false y p q e = absurd (let w : _≡_ {A = ℕ} 0 1 = cc in omega arith)
+zero-or-one : (k : ℕ) → k ≤ 1 → (k ≡ 0) ⊎ (k ≡ 1)
+zero-or-one zero h = inl refl
+zero-or-one (suc k) h = inr (omega arith)
+
+at-most-one : (k : ℕ) → (k ≡ 0) ⊎ (k ≡ 1) → k ≤ 1
+at-most-one k (inl e) = omega arith
+at-most-one k (inr e) = omega arith
+
+is-good : (m : ℕ) (l : Load) → goodLoad m l ≡ true → IsGood m l
+is-good m l e =
+    let a = and-eq-true-iff (leb 1 (l .size) && leb (l .size) m) (leb (l .flag) 1) .0 e in
+    let b = and-eq-true-iff (leb 1 (l .size)) (leb (l .size) m) .0 (a .0) in
+    record {
+      some = leb-true 1 (l .size) (b .0);
+      fits = leb-true (l .size) m (b .1);
+      flag = zero-or-one (l .flag) (leb-true (l .flag) 1 (a .1));
+    }
+
+good-is : (m : ℕ) (l : Load) → IsGood m l → goodLoad m l ≡ true
+good-is m l g = simp (le-leb 1 (l .size) (g .some), le-leb (l .size) m (g .fits), le-leb (l .flag) 1 (at-most-one (l .flag) (g .flag)))
 
 full-block : (n k : ℕ) → k < blocksFor n → isLast n k ≡ false → countIn n k ≡ 127
 full-block n k h e =
@@ -78,7 +92,7 @@ pub protocol : Protocol
 protocol = record {
   load = fields;
   used = λ l. (eqb-true (l .flag) 1, eq-eqb (l .flag) 1);
-  sizes = λ m l. (good-size m (l .size), λ h. simp (le-leb 1 (l .size) (h .0), le-leb (l .size) m (h .1)));
+  good-load = λ m l. (is-good m l, good-is m l);
   blocks = (refl, refl, refl, refl, refl, refl);
   full = full-block;
   last = last-block;

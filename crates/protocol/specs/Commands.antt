@@ -23,11 +23,11 @@ commandIn f = getD f 1 0
 unfoldable pub loadIn : List ℕ → Load
 loadIn f = record { size = word f 2; flag = getD f 6 0; uss = take 32 (drop 7 f) }
 
--- a size of 0, or over the RAM's length m, is bad
+-- a size of 0, or over the RAM's length m, is bad, and so is a flag other than 0 or 1 (change request 2)
 abbrev pub goodLoad : ℕ → Load → Bool
-goodLoad m l = leb 1 (l .size) && leb (l .size) m
+goodLoad m l = leb 1 (l .size) && leb (l .size) m && leb (l .flag) 1
 
--- flag 1 means that the USS is used; any other flag means none
+-- flag 1 means that the USS is used, flag 0 none
 abbrev pub usesUss : Load → Bool
 usesUss l = eqb (l .flag) 1
 

@@ -17,6 +17,12 @@ use Rattle.protocol.specs.declared.Reply.{Reply}
 abbrev pub loadWith : ℕ → ℕ → List ℕ → Load
 loadWith n flag uss = record { size = n; flag = flag; uss = uss }
 
+-- a size from 1 to the RAM's length m, and a flag of 0 or 1
+pub record IsGood (m : ℕ) (l : Load) : Type 0 where
+  pub some : 1 ≤ l .size
+  pub fits : l .size ≤ m
+  pub flag : (l .flag ≡ 0) ⊎ (l .flag ≡ 1)
+
 -- a reply is as long as it says, with its header, and has at most 129 bytes
 abbrev pub Framed : Reply → Type 0
 Framed r = (r .len ≤ 128) × (length (sent r) ≡ r .len + 1)
@@ -27,8 +33,8 @@ pub record Protocol : Type 0 where
       → loadIn (h ∷ command ∷ size ++ flag ∷ uss ++ rest) ≡ loadWith (word size 0) flag uss
   -- the user secret is used exactly when the flag is 1
   pub used : (l : Load) → (usesUss l ≡ true) ↔ (l .flag ≡ 1)
-  -- a size is good from 1 to the RAM's length
-  pub sizes : (m : ℕ) (l : Load) → (goodLoad m l ≡ true) ↔ ((1 ≤ l .size) × (l .size ≤ m))
+  -- which loads are good
+  pub good-load : (m : ℕ) (l : Load) → (goodLoad m l ≡ true) ↔ IsGood m l
   -- P6 to P10
   pub blocks : (blocksFor 127 ≡ 1) × (blocksFor 128 ≡ 2) × (blocksFor 254 ≡ 2) × (blocksFor 255 ≡ 3)
       × (blocksFor 131072 ≡ 1033) × (countIn 131072 1032 ≡ 8)

@@ -54,7 +54,10 @@ pub fn load_is_good(l: Load, ram_len: usize) -> bool
     if size == 0 {
         return false;
     }
-    size <= ram_len
+    if ram_len < size {
+        return false;
+    }
+    l.flag <= 1
 }
 
 // Whether the user secret is used.

@@ -136,7 +136,7 @@ fn size(n: u32) {
     cable::finish(cable::blocks(loaded));
 }
 
-// Flags with a user secret of zeros, and with one that counts.
+// Flags with a user secret of zeros, and with one that counts. A load with a flag over 1 is not taken, and the first block stops the head.
 pub fn flags() {
     let mut i: usize = 0;
     while i < 4 {

@@ -9,7 +9,7 @@ use native.Mathlib.Numerals.{add-one}
 use lib.Dec.{eqb}
 use lib.ListN.{length, getD, take, replicate, length-append, length-drop}
 use lib.Seq.{take-at}
-use borrow.Author.Tests.{eqb-true, eqb-false, eq-eqb, ne-eqb, le-leb}
+use borrow.Author.Tests.{eqb-true, eqb-false, eq-eqb, ne-eqb}
 use Rattle.framing.specs.Header.{good, headerAt}
 use Rattle.blake2s.specs.Rfc7693.{blake2s, bytes}
 use Rattle.cdi.specs.Cdi.{cdiString}
@@ -112,9 +112,6 @@ module _ (prog : List ℕ) (id : ℕ) (secret : Secret) (makes : Made prog id se
   command-of k = ap commandIn (made.frame-suc prog id secret makes k) ∙ made.is-block prog id secret makes k .1
 
   module _ (m : ℕ) (fits : n ≤ m) where
-    load-good : goodLoad m (loadIn (frame prog id secret 0)) ≡ true
-    load-good = ap (λ (l : Load). goodLoad m l) (made.load-is prog id secret makes) ∙ simp (le-leb 1 n some, le-leb n m fits)
-
     digest-none : (k : ℕ) → k < blocksFor n → digestAt prog id secret k ≡ replicate 32 0
     digest-none k h = rw (ne-eqb k (blocksFor n) (λ e. omega arith))
 
@@ -125,7 +122,7 @@ module _ (prog : List ℕ) (id : ℕ) (secret : Secret) (makes : Made prog id se
         absurd (let w = ap length e ∙ made.whole prog id secret makes k in let d : length (bodyOf f) ≡ 1 = q .0 in omega (arith, length-drop 1 f))
     reply-taken rec udi zero h f e r (to-load l a ea g eg) =
         let b : a ≡ commandHeader id = ea ∙ ap (λ (x : List ℕ). getD x 0 0) e in
-        let t : g ≡ true = eg ∙ ap (λ (x : List ℕ). goodLoad m (loadIn x)) e ∙ load-good in
+        let t : g ≡ true = eg ∙ ap (λ (x : List ℕ). goodLoad m (loadIn x)) e ∙ made.load-good prog id secret makes m fits .1 in
         rw (b, t) (protocol .lengths (commandHeader id) [] [] true .2, client .to-load n id true (makes .accepted))
     reply-taken rec udi (suc k) h f e r (to-load l a ea g eg) =
         absurd (let c : commandIn f ≡ 5 = ap commandIn e ∙ command-of k in let d : commandIn f ≡ 3 = l .1 in omega arith)

@@ -1,6 +1,7 @@
 -- The frames that the client makes, by document 01's reading of them: a load, and blocks that carry the program.
 use Prim.Native.Nat.{ℕ, zero, suc, _+_, _-_, _*_, _/_, _%_, _<_, _≤_}
 use mathlib.Core.Path.{_≡_, refl, sym, ap, _∙_, subst}
+use mathlib.Core.Logic.{_⊎_, inl, inr}
 use mathlib.Core.Bool.{Bool, true, false, cond}
 use mathlib.Core.List.{List, [], _∷_, _++_, append-nil}
 use native.Mathlib.Nat.{suc-sub-suc, sub-zero}
@@ -8,13 +9,13 @@ use native.Mathlib.Omega.{arith}
 use lib.Dec.{eqb}
 use lib.ListN.{length, getD, take, drop, replicate, length-take, length-drop, take-append-drop}
 use lib.Seq.{take-append-add, take-append-seam, take-all, drop-at}
-use borrow.Author.Tests.{eq-eqb, ne-eqb, le-leb}
+use borrow.Author.Tests.{eq-eqb, ne-eqb}
 use Rattle.framing.specs.Header.{good, headerAt, inField, endpoint}
 use Rattle.framing.proofs.Headers.{headers, fields-of}
 use Rattle.blake2s.specs.Rfc7693.{word, blake2s}
-use Rattle.protocol.specs.Commands.{firmware, loadIn, goodLoad, carriedBy, blocksFor}
+use Rattle.protocol.specs.Commands.{firmware, loadIn, carriedBy, blocksFor}
 use Rattle.protocol.specs.Replies.{written, filled}
-use Rattle.protocol.specs.Theorems.{loadWith}
+use Rattle.protocol.specs.Theorems.{loadWith, IsGood}
 use Rattle.protocol.proofs.Proved.{protocol}
 use Rattle.protocol.specs.declared.Load.{Load}
 use Rattle.client.specs.Frames.{commandHeader, sizeBytes, loadBody, blockBody}
@@ -101,6 +102,19 @@ module _ (prog : List ℕ) (id : ℕ) (secret : Secret) (made : Made prog id sec
   pub is-load : shape.Load (frame prog id secret 0)
   unfolding loadBody
   is-load = (body-length (commandHeader id) (loadBody (length prog) secret) (whole 0), refl)
+
+  -- a head with room for the program takes it
+  pub load-good : (m : ℕ) → length prog ≤ m → GoodLoad m (frame prog id secret 0)
+  load-good m fits =
+      let g : IsGood m (loadIn (frame prog id secret 0)) = rw load-is (record { some = some; fits = fits; flag = zero-or-one (secret .used) }) in
+      (is-load, protocol .good-load m (loadIn (frame prog id secret 0)) .1 g)
+    where
+      zero-or-one : (u : Bool) → (_≡_ {A = ℕ} (cond u 1 0) 0) ⊎ (_≡_ {A = ℕ} (cond u 1 0) 1)
+      zero-or-one true = inr refl
+      zero-or-one false = inl refl
+
+  load-fits : (m : ℕ) → GoodLoad m (frame prog id secret 0) → length prog ≤ m
+  load-fits m l = let g = protocol .good-load m (loadIn (frame prog id secret 0)) .0 (l .1) in rw load-is at (g .fits)
 
   -- the part of the program that a block carries
   abbrev part : ℕ → List ℕ
@@ -242,6 +256,7 @@ module _ (prog : List ℕ) (id : ℕ) (secret : Secret) (made : Made prog id sec
         load = λ f b. (λ e. subst (IsLoad prog id secret) (sym e) is-load-frame, load-only f b);
         block = λ k f b.
             (λ e. subst (IsBlock prog id secret k) (sym (e ∙ frame-suc k)) (is-block-frame k), λ l. block-only k f b l ∙ sym (frame-suc k));
+        taken = λ m. (load-fits m, load-good m);
       }
 
   -- ---- the reading of these frames
@@ -253,10 +268,6 @@ module _ (prog : List ℕ) (id : ℕ) (secret : Secret) (made : Made prog id sec
 
     needed : blocksFor (length prog) ≡ suc last-number
     needed = let s = some in omega arith
-
-    load-good : GoodLoad m (frame prog id secret 0)
-    load-good =
-        (is-load, ap (λ (l : Load). goodLoad m l) load-is ∙ simp (le-leb 1 (length prog) some, le-leb (length prog) m fits))
 
     same-program : programOf (frame prog id secret 0) (blocks-to (suc last-number)) ≡ prog
     same-program =
@@ -280,7 +291,7 @@ module _ (prog : List ℕ) (id : ℕ) (secret : Secret) (made : Made prog id sec
           blocks = blocks-to (suc last-number);
           order = rw is-own (ap (λ (x : List (List ℕ)). frame prog id secret 0 ∷ x) (blocks-own (suc last-number)));
           opens = tt;
-          loads = load-good;
+          loads = load-good m fits;
           carry = blocks-are (suc last-number);
           enough = blocks-count (suc last-number) ∙ sym (ap (λ (l : Load). blocksFor (l .size)) load-is ∙ needed);
           allowed = λ t. ap (λ (x : List ℕ). blake2s [] x 32) same-program ∙ allows t;

@@ -1,4 +1,4 @@
--- The frames of a start in one way: the load of a good size is the first frame that is neither a query nor a load of a bad size.
+-- The frames of a start in one way: the good load is the first frame that is neither a query nor a bad load.
 use Prim.Native.Nat.{ℕ, _*_, _≤_}
 use mathlib.Core.Path.{_≡_, refl, sym, ap, _∙_}
 use mathlib.Core.Logic.{_⊎_, inl, inr, ⊎-elim}
@@ -101,7 +101,7 @@ module _ (m : ℕ) where
       let t : xs ≡ ys = r .0 in
       (cc, r .1, r .2)
 
-  -- the frame after queries and loads of a bad size, in the frames of a start
+  -- the frame after queries and bad loads, in the frames of a start
   pub next-is : (os : List (List ℕ)) (f : List ℕ) (rest : List (List ℕ)) → All (Opens m) os → (xs : List (List ℕ)) (l : List ℕ) (bs : List (List ℕ)) → All (Opens m) xs
       → GoodLoad m l → os ++ f ∷ rest ≡ xs ++ l ∷ bs → Opens m f ⊎ GoodLoad m f
   next-is [] f rest a [] l bs b g e = inr (let q : f ≡ l = head-eq-of-cons-eq e in rw q g)
@@ -109,7 +109,7 @@ module _ (m : ℕ) where
   next-is (o ∷ os) f rest a [] l bs b g e = absurd (let q : o ≡ l = head-eq-of-cons-eq e in not-both l (rw (← q) (a .0)) g)
   next-is (o ∷ os) f rest a (x ∷ xs) l bs b g e = next-is os f rest (a .1) xs l bs (b .1) g (tail-eq-of-cons-eq e)
 
-  -- there is no start without a load of a good size
+  -- there is no start without a good load
   pub no-load : (os : List (List ℕ)) → All (Opens m) os → (xs : List (List ℕ)) (l : List ℕ) (bs : List (List ℕ)) → GoodLoad m l → os ≡ xs ++ l ∷ bs → ⊥
   no-load [] a [] l bs g e = let w : _≡_ {A = ℕ} 0 1 = cc in omega arith
   no-load [] a (x ∷ xs) l bs g e = let w : _≡_ {A = ℕ} 0 1 = cc in omega arith
@@ -133,7 +133,7 @@ carried-length [] a = refl
 carried-length (f ∷ bs) a = length-append (carriedBy f) (carried bs) ∙ omega (arith, carried-length bs (a .1), carries-127 f (a .0))
 
 pub load-size : (m : ℕ) (f : List ℕ) → GoodLoad m f → (1 ≤ sizeOf f) × (sizeOf f ≤ m)
-load-size m f g = protocol .sizes m (loadIn f) .0 (g .1)
+load-size m f g = let l = protocol .good-load m (loadIn f) .0 (g .1) in (l .some, l .fits)
 
 pub All-last : (P : List ℕ → Type 0) (fs : List (List ℕ)) (f : List ℕ) (gs : List (List ℕ)) → All P (fs ++ f ∷ gs) → P f
 All-last P [] f gs a = a .0

@@ -39,7 +39,7 @@ module _ {rec : List ℕ} {m : ℕ} {heard : List ℕ} (w : Starting rec m heard
   abbrev pub used : Bool
   used = usesUss (loadIn (w .load))
 
-  -- the user secret of the load of good size, or none
+  -- the user secret of the good load, or none
   abbrev pub userSecret : Option (List ℕ)
   userSecret = cond used (some (loadIn (w .load) .uss)) none
 

@@ -19,7 +19,7 @@ use Rattle.loader.specs.Begin.{beginning}
 use Rattle.client.specs.Frames.{refusal, commandFrame}
 use Rattle.client.specs.Replies.{takingAs, taking}
 use Rattle.client.specs.declared.Secret.{Secret}
-use Rattle.session.specs.Reading.{joined, Load, Block, Allowed, chained, measuredId}
+use Rattle.session.specs.Reading.{joined, Load, GoodLoad, Block, Allowed, chained, measuredId}
 use Rattle.session.specs.Session.{Words, Entry, Among, isAccepted, receivedBytes, Session, allOf, acceptedOf, hasEnded}
 use Rattle.session.specs.Boot.{Start}
 
@@ -68,6 +68,8 @@ module _ (program : List ℕ) (id : ℕ) (secret : Secret) where
   pub record ReadAs : Type 0 where
     pub load : (f : List ℕ) → Bytes f → (f ≡ frame 0) ↔ IsLoad f
     pub block : (k : ℕ) (f : List ℕ) → Bytes f → (f ≡ frame (suc k)) ↔ IsBlock k f
+    -- the load is good exactly where RAM has room for the program: no flag that is made is a bad one
+    pub taken : (m : ℕ) → GoodLoad m (frame 0) ↔ (length program ≤ m)
 
   -- ---- the frames on a head
 

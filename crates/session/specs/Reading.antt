@@ -46,17 +46,18 @@ bodyOf f = drop 1 f
 abbrev pub Query : List ℕ → Type 0
 Query f = (length (bodyOf f) ≡ 1) × ((commandIn f ≡ 0x01) ⊎ (commandIn f ≡ 0x08))
 
--- a load has a body of 128 that begins with 0x03; m is the RAM's length at begin
+-- a load has a body of 128 that begins with 0x03
 abbrev pub Load : List ℕ → Type 0
 Load f = (length (bodyOf f) ≡ 128) × (commandIn f ≡ 0x03)
 
+-- good or bad by its size and its flag; m is the RAM's length at begin
 abbrev pub GoodLoad : ℕ → List ℕ → Type 0
 GoodLoad m f = Load f × (goodLoad m (loadIn f) ≡ true)
 
 abbrev pub BadLoad : ℕ → List ℕ → Type 0
 BadLoad m f = Load f × (goodLoad m (loadIn f) ≡ false)
 
--- what may come before the load of a good size
+-- what may come before the good load
 abbrev pub Opens : ℕ → List ℕ → Type 0
 Opens m f = Query f ⊎ BadLoad m f
 
@@ -100,7 +101,7 @@ pub record Starting (rec : List ℕ) (m : ℕ) (heard : List ℕ) : Type 0 where
   pub nothing-left : heard ≡ joined (before ++ last ∷ [])
   pub last-own : forFirmware last ≡ true
   pub last-block : Block last
-  -- of those with endpoint 2: queries and loads of a bad size in any order and number, one load of a good size, then blocks
+  -- of those with endpoint 2: queries and bad loads in any order and number, one good load, then blocks
   pub opening : List (List ℕ)
   pub load : List ℕ
   pub blocks : List (List ℕ)

@@ -1,7 +1,8 @@
--- A size of 0 is below 1; any other is not.
+-- Each test in the definition's order; what is left after the last one is the answer.
+use Prim.Native.Nat.{_≤_}
 use mathlib.Core.Path.{_≡_}
 use native.Mathlib.Omega.{arith}
-use borrow.Author.Tests.{le-leb}
+use borrow.Author.Tests.{le-leb, lt-leb}
 use borrow.Author.Needs.{needs}
 use Rattle.protocol.proofs.load_is_good.Statement.{statement}
 use Rattle.protocol.proofs.load_is_good.Tie as tie
@@ -9,8 +10,14 @@ use Rattle.protocol.proofs.load_is_good.Tie as tie
 returns : tie.Need-returns
 returns c = let l = c .before .before .args .l in let e : l .size ≡ 0 = c .if1 .taken in simp (e)
 
+some : (f : tie.Else1) → 1 ≤ f .before .before .args .l .size
+some f = omega (arith, f .if1 .left)
+
 returns-2 : tie.Need-returns-2
-returns-2 c = let l = c .before .before .args .l in simp (le-leb 1 (l .size) (omega (arith, c .if1 .left)))
+returns-2 c = simp (le-leb 1 _ (some (c .before)), lt-leb _ _ (c .if2 .taken))
+
+returns-3 : tie.Need-returns-3
+returns-3 c = let f = c .before in simp (le-leb 1 _ (some (f .before)), le-leb _ _ (f .if2 .left))
 
 pub load-is-good-spec : {M : Type 1} → statement M
-load-is-good-spec = tie.close (tie.spec (λ c. search needs) returns returns-2)
+load-is-good-spec = tie.close (tie.spec (λ c. search needs) returns returns-2 returns-3)
