@@ -13,7 +13,7 @@ from collections import Counter
 from pathlib import Path
 
 from head import PREFIX, headlog
-from sessions import LARGE_SIZES, SIZES, STOPPING_TYPES, session
+from sessions import BAD_FLAGS, LARGE_SIZES, SIZES, STOPPING_TYPES, session
 
 HEADLOG = Path(__file__).parent.parent / "target" / "bin" / "headlog"
 SESSIONS = 1200
@@ -28,8 +28,8 @@ EXAMPLE_LINES = ["R 1202746b31206d6b64660100000000000000000000000000000000000000
 ENDS = ["S", "W", "E 1"] + [f"F {k}" for k in range(20, 26)]
 STARTS = [f"type {t}, {d}, {u}" for t in (4, 5) for d in ("direct", "chained") for u in ("no USS", "USS")]
 REPLIES = {"0274": "name", "0900": "UDI", "0400": "load taken", "0401": "load not taken", "0600": "block", "0700": "last block"}
-FLAGGED = ["a start after loads with a bad flag", "a stop at a block after one"]
 EDGES = [f"start of size {n}" for n in SIZES + LARGE_SIZES] + [f"stop at type {t}" for t in STOPPING_TYPES]
+EDGES += [f"start after flag {k}" for k in BAD_FLAGS] + ["block after a bad flag"]
 
 
 def play(program, data):
@@ -72,9 +72,9 @@ def kinds(s, lines):
 
 def end_kinds(s, last):
     if last[0] == "S":
-        return ["S", s.start_kind(), f"start of size {len(s.program)}"] + FLAGGED[:1] * (s.bad_flags > 0)
-    if last == "F 23" and s.flag > 1:
-        return [last, FLAGGED[1]]
+        return ["S", s.start_kind(), f"start of size {len(s.program)}", *(f"start after flag {k}" for k in s.bad_flags)]
+    if last == "F 23" and s.flag in BAD_FLAGS:
+        return [last, "block after a bad flag"]
     if last in ("F 20", "F 21"):
         return [last, f"stop at type {s.type}"]
     return [last if last[0] in "EF" else last[0]]
@@ -102,9 +102,9 @@ def main(program):
 def report(seen, heard):
     """Counts; 1 if a kind never came up."""
     print(f"{SESSIONS} sessions, {heard} bytes heard")
-    for name, wanted in [("ends", ENDS), ("starts", STARTS), ("replies", REPLIES.values()), ("flags", FLAGGED)]:
+    for name, wanted in [("ends", ENDS), ("starts", STARTS), ("replies", REPLIES.values())]:
         print(f"{name}: " + "; ".join(f"{k}: {seen[k]}" for k in wanted))
-    missing = [k for k in [*ENDS, *STARTS, *REPLIES.values(), *FLAGGED, *EDGES] if not seen[k]]
+    missing = [k for k in [*ENDS, *STARTS, *REPLIES.values(), *EDGES] if not seen[k]]
     for k in missing:
         print(f"never came up: {k}")
     return 1 if missing else 0

@@ -8,6 +8,7 @@ SIZES = [1, 126, 127, 128, 253, 254, 255, 381]
 LARGE_SIZES = [PRINTER_RAM - 1, PRINTER_RAM]
 BAD_SIZES = [0, PRINTER_RAM + 1, 131073, 2**32 - 1]
 FLAGS = [0, 1]
+BAD_FLAGS = range(2, 256)
 STOPPING_TYPES = [0, 1, 2, 3, 6, 0x104, 0x01000004, 0x05000000, 2**32 - 1]
 COMMANDS = [0x01, 0x03, 0x05, 0x08]
 
@@ -29,10 +30,6 @@ def frame(rng, body, endpoint=2):
 
 def query(rng):
     return frame(rng, rng.choice([b"\x01", b"\x08"]))
-
-
-def bad_flag(rng):
-    return rng.choice([2, 255, rng.randrange(2, 256)])
 
 
 def load(rng, size, flag):
@@ -65,7 +62,7 @@ class Session:
     type: int = 4
     mask: int = 0
     flag: int = 0
-    bad_flags: int = 0  # how many loads with a bad flag and a good size come before the one that is to be taken
+    bad_flags: list = field(default_factory=list)  # of loads of a good size before that one
     program: bytes = b""
     required: bytes = ZEROS
     waiting: list = field(default_factory=list)  # frames before the load
@@ -109,9 +106,9 @@ def bad_sizes(rng, s):
 
 
 def bad_flags(rng, s):
-    s.bad_flags = rng.randint(1, 3)
-    for _ in range(s.bad_flags):
-        insert(rng, s.waiting, load(rng, rng.choice(SIZES + LARGE_SIZES), bad_flag(rng)))
+    s.bad_flags = rng.sample(BAD_FLAGS, rng.randint(1, 32))
+    for flag in s.bad_flags:
+        insert(rng, s.waiting, load(rng, rng.choice(SIZES + LARGE_SIZES), flag))
 
 
 def others(rng, s):
@@ -139,7 +136,7 @@ def stopping_type(rng, s):
 
 def flagged(rng, s):
     """The load, which is the first of its frames for the firmware, gets a bad flag."""
-    s.flag = bad_flag(rng)
+    s.flag = rng.choice(BAD_FLAGS)
     at = next(i for i, f in enumerate(s.loading) if Frame(f[0]).endpoint() == FIRMWARE)
     s.loading[at] = load(rng, len(s.program), s.flag)
 
