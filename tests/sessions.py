@@ -61,8 +61,8 @@ class Session:
 
     type: int = 4
     mask: int = 0
-    flag: int = 0
-    bad_flags: list = field(default_factory=list)  # of loads of a good size before that one
+    flag: int = 0  # of the load that is to be taken
+    bad_flags: list = field(default_factory=list)  # of loads of a good size before it
     program: bytes = b""
     required: bytes = ZEROS
     waiting: list = field(default_factory=list)  # frames before the load

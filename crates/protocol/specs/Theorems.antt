@@ -17,7 +17,7 @@ use Rattle.protocol.specs.declared.Reply.{Reply}
 abbrev pub loadWith : ℕ → ℕ → List ℕ → Load
 loadWith n flag uss = record { size = n; flag = flag; uss = uss }
 
--- a size from 1 to the RAM's length m, and a flag of 0 or 1
+-- a good load: a size from 1 to the RAM's length m, and a flag of 0 or 1 (change request 2)
 pub record IsGood (m : ℕ) (l : Load) : Type 0 where
   pub some : 1 ≤ l .size
   pub fits : l .size ≤ m
