@@ -13,7 +13,7 @@ from collections import Counter
 from pathlib import Path
 
 from head import PREFIX, headlog
-from sessions import BAD_FLAGS, LARGE_SIZES, SIZES, STOPPING_TYPES, session
+from sessions import BAD_FLAGS, BAD_SIZES, LARGE_SIZES, SIZES, STOPPING_TYPES, session
 
 HEADLOG = Path(__file__).parent.parent / "target" / "bin" / "headlog"
 SESSIONS = 1200
@@ -29,7 +29,7 @@ ENDS = ["S", "W", "E 1"] + [f"F {k}" for k in range(20, 26)]
 STARTS = [f"type {t}, {d}, {u}" for t in (4, 5) for d in ("direct", "chained") for u in ("no USS", "USS")]
 REPLIES = {"0274": "name", "0900": "UDI", "0400": "load taken", "0401": "load not taken", "0600": "block", "0700": "last block"}
 EDGES = [f"start of size {n}" for n in SIZES + LARGE_SIZES] + [f"stop at type {t}" for t in STOPPING_TYPES]
-EDGES += [f"start after flag {k}" for k in BAD_FLAGS] + ["block after a bad flag"]
+EDGES += [f"start after size {n}" for n in BAD_SIZES] + [f"start after flag {k}" for k in BAD_FLAGS] + ["block after a bad flag"]
 
 
 def play(program, data):
@@ -72,7 +72,7 @@ def kinds(s, lines):
 
 def end_kinds(s, last):
     if last[0] == "S":
-        return ["S", s.start_kind(), f"start of size {len(s.program)}", *(f"start after flag {k}" for k in s.bad_flags)]
+        return ["S", s.start_kind(), f"start of size {len(s.program)}", *(f"start after {what}" for what in s.not_taken())]
     if last == "F 23" and s.flag in BAD_FLAGS:
         return [last, "block after a bad flag"]
     if last in ("F 20", "F 21"):

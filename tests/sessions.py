@@ -2,7 +2,7 @@
 import random
 from dataclasses import dataclass, field
 
-from head import FIRMWARE, PREFIX, PRINTER_RAM, ZEROS, Frame, blake2s
+from head import FIRMWARE, PREFIX, PRINTER_RAM, ZEROS, Frame, blake2s, number
 
 SIZES = [1, 126, 127, 128, 253, 254, 255, 381]
 LARGE_SIZES = [PRINTER_RAM - 1, PRINTER_RAM]
@@ -62,7 +62,6 @@ class Session:
     type: int = 4
     mask: int = 0
     flag: int = 0  # of the load that is to be taken
-    bad_flags: list = field(default_factory=list)  # of loads of a good size before it
     program: bytes = b""
     required: bytes = ZEROS
     waiting: list = field(default_factory=list)  # frames before the load
@@ -77,6 +76,16 @@ class Session:
     def start_kind(self):
         chained = "chained" if self.mask & 1 else "direct"
         return f"type {self.type}, {chained}, {'USS' if self.flag == 1 else 'no USS'}"
+
+    def not_taken(self):
+        """The one thing that is bad about a load before the one that is to be taken, for each that has one, as they are sent."""
+        for f in self.waiting:
+            if len(f) == 129 and f[0] & 0x9F == 0x13 and f[1] == 0x03:
+                size, flag = number(f[2:6]), f[6]
+                if flag in FLAGS:
+                    yield f"size {size}"
+                elif 1 <= size <= PRINTER_RAM:
+                    yield f"flag {flag}"
 
 
 def draw(rng, size):
@@ -102,12 +111,11 @@ def queries(rng, s):
 
 
 def bad_sizes(rng, s):
-    insert(rng, s.waiting, load(rng, rng.choice(BAD_SIZES), rng.randrange(256)))
+    insert(rng, s.waiting, load(rng, rng.choice(BAD_SIZES), rng.choice([*FLAGS, rng.choice(BAD_FLAGS)])))
 
 
 def bad_flags(rng, s):
-    s.bad_flags = rng.sample(BAD_FLAGS, rng.randint(1, 32))
-    for flag in s.bad_flags:
+    for flag in rng.sample(BAD_FLAGS, rng.randint(1, 32)):
         insert(rng, s.waiting, load(rng, rng.choice(SIZES + LARGE_SIZES), flag))
 
 

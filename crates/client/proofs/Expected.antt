@@ -1,7 +1,7 @@
 -- What is expected of a reply, by its kind, and what is known of a reply that is expected.
 use Prim.Native.Nat.{ℕ, _+_, _-_, _<_, _≤_}
-use mathlib.Core.Path.{_≡_, refl}
-use mathlib.Core.Bool.{Bool, true, false, cond, _&&_}
+use mathlib.Core.Path.{_≡_}
+use mathlib.Core.Bool.{Bool, true, false, cond, and-eq-true-iff}
 use mathlib.Core.List.{List}
 use native.Mathlib.Omega.{arith}
 use lib.Dec.{eqb}
@@ -28,11 +28,6 @@ expected-fits n k = go (eqb k 0) (isLast n (k - 1))
     go false true = record { body = omega arith; filler = omega arith; digest = omega arith; code = omega arith }
     go false false = record { body = omega arith; filler = omega arith; digest = omega arith; code = omega arith }
 
--- two tests that both hold
-pub both : (a b : Bool) → a && b ≡ true → (a ≡ true) × (b ≡ true)
-both true b e = (refl, e)
-both false b e = absurd (let w : _≡_ {A = ℕ} 0 1 = cc in omega arith)
-
 pub whole-reply : (x : Expected) (id : ℕ) (r : List ℕ) → isExpected x id r ≡ true → length r ≡ 1 + x .len
 unfolding isExpected
-whole-reply x id r e = eqb-true (length r) (1 + x .len) (both (eqb (length r) (1 + x .len)) _ e .0)
+whole-reply x id r e = eqb-true (length r) (1 + x .len) (and-eq-true-iff (eqb (length r) (1 + x .len)) _ .0 e .0)

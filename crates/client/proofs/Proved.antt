@@ -1,7 +1,7 @@
 -- The theorem of specs/Theorems.antt: a reply by its parts, and the parts of a reply that is expected.
-use Prim.Native.Nat.{ℕ, suc, _+_, _-_, _*_, _/_, _^_, _<_, _≤_}
+use Prim.Native.Nat.{ℕ, suc, _+_, _-_, _*_, _^_, _<_, _≤_}
 use mathlib.Core.Path.{_≡_, refl, sym, ap, _∙_, subst}
-use mathlib.Core.Bool.{Bool, true, false, cond, _&&_}
+use mathlib.Core.Bool.{Bool, true, false, cond, _&&_, and-eq-true-iff}
 use mathlib.Core.List.{List, [], _∷_, _++_, append-nil}
 use native.Mathlib.Omega.{arith}
 use lib.Dec.{eqb, leb}
@@ -18,7 +18,7 @@ use Rattle.client.specs.Frames.{refusal, secretOf, commandHeader, sizeBy
 use Rattle.client.specs.Replies.{expectedReply, headerIs, allZero, digestIn, isExpected, Taking, takingAs, takenAs, refusedWith, taking}
 use Rattle.client.specs.Theorems.{Expects, Client}
 use Rattle.client.proofs.Numbers.{Given, given}
-use Rattle.client.proofs.Expected.{Fits, expected-fits, both, whole-reply}
+use Rattle.client.proofs.Expected.{Fits, expected-fits, whole-reply}
 use Rattle.client.proofs.Zeros.{zeros-are, are-zeros}
 use Rattle.client.specs.declared.Answer.{Answer}
 use Rattle.client.specs.declared.Answer.the-variants.{Accepted, FrameRoom, ProgramLength, FrameId, FrameNumber, UnexpectedReply}
@@ -76,8 +76,8 @@ example = (refl, refl, refl)
 
 header-is : (x : Reading) (id n : ℕ) → headerIs x id n ≡ true → x ≡ good id firmware n
 header-is (good i ep m) id n e =
-    let b = both (eqb i id) (eqb ep firmware && eqb m n) e in
-    let d = both (eqb ep firmware) (eqb m n) (b .1) in
+    let b = and-eq-true-iff (eqb i id) (eqb ep firmware && eqb m n) .0 e in
+    let d = and-eq-true-iff (eqb ep firmware) (eqb m n) .0 (b .1) in
     let p : i ≡ id = eqb-true i id (b .0) in
     let q : ep ≡ 2 = eqb-true ep firmware (d .0) in
     let r : m ≡ n = eqb-true m n (d .1) in
@@ -102,10 +102,10 @@ parts x f id (h ∷ []) l e = absurd (let w = whole-reply x id (h ∷ []) e in o
 parts x f id (h ∷ c ∷ []) l e = absurd (let w = whole-reply x id (h ∷ c ∷ []) e in omega (arith, f .filler))
 parts x f id (h ∷ c ∷ s ∷ rest) l e =
     let w : suc (suc (suc (length rest))) ≡ 1 + x .len = whole-reply x id (h ∷ c ∷ s ∷ rest) e in
-    let a = both (eqb (suc (suc (suc (length rest)))) (1 + x .len)) _ e .1 in
-    let b = both (headerIs (headerAt h) id (x .len)) _ a in
-    let d = both (eqb c (x .code)) _ (b .1) in
-    let g = both (leb s 1) _ (d .1) in
+    let a = and-eq-true-iff (eqb (suc (suc (suc (length rest)))) (1 + x .len)) _ .0 e .1 in
+    let b = and-eq-true-iff (headerIs (headerAt h) id (x .len)) _ .0 a in
+    let d = and-eq-true-iff (eqb c (x .code)) _ .0 (b .1) in
+    let g = and-eq-true-iff (leb s 1) _ .0 (d .1) in
     let p : h ≡ written (headerByte id firmware (x .len)) = byte-is h id (x .len) l (header-is (headerAt h) id (x .len) (b .0)) in
     let q : c ≡ x .code = eqb-true c (x .code) (d .0) in
     let t : rest ≡ take (x .digest) rest ++ replicate (x .len - suc (suc (length (take (x .digest) rest)))) 0 =

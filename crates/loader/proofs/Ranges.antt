@@ -1,6 +1,6 @@
 -- What a state in range has.
 use Prim.Native.Nat.{ℕ, zero, suc, _+_, _*_, _/_, _%_, _<_, _≤_}
-use mathlib.Core.Bool.{Bool, true, false, cond, _&&_}
+use mathlib.Core.Bool.{Bool, true, false, cond, and-eq-true-iff}
 use mathlib.Core.Path.{_≡_, refl, sym}
 use native.Mathlib.Omega.{arith}
 use lib.Dec.{eqb, leb}
@@ -20,10 +20,6 @@ use Rattle.loader.specs.declared.State.{State}
 -- a test that is both true and false
 pub never : {A : Type 0} → _≡_ {A = Bool} true false → A
 never e = absurd (let w : _≡_ {A = ℕ} 0 1 = cc in omega arith)
-
-pub both : (x y : Bool) → x && y ≡ true → (x ≡ true) × (y ≡ true)
-both true y e = (refl, e)
-both false y e = never (sym e)
 
 -- by cases on a test, each with what the test says
 pub by-test : {A : Type 0} (P : A → Type 0) (t : Bool) (x y : A) → (t ≡ true → P x) → (t ≡ false → P y) → P (cond t x y)
@@ -75,8 +71,8 @@ pub record Loaded (p : Progress) (m : ℕ) : Type 0 where
 
 pub loading-facts : (p : Progress) (m : ℕ) → loadingOk p m ≡ true → Loaded p m
 loading-facts p m e =
-    let a = both (leb 1 (p .size)) _ e in
-    let b = both (leb (p .size) m) _ (a .1) in
+    let a = and-eq-true-iff (leb 1 (p .size)) _ .0 e in
+    let b = and-eq-true-iff (leb (p .size) m) _ .0 (a .1) in
     record {
       some = leb-true 1 (p .size) (a .0);
       fits = leb-true (p .size) m (b .0);
@@ -122,9 +118,9 @@ pub record InRange (s : State) : Type 0 where
 pub range-facts : (s : State) → inRange s ≡ true → InRange s
 unfolding inRange
 range-facts s e =
-    let a = both (ramOk (s .config .«ram_len»)) _ e in
-    let b = both (leb 1 (s .config .«ram_len»)) _ (a .0) in
-    let d = both (incomingOk (s .incoming)) _ (a .1) in
+    let a = and-eq-true-iff (ramOk (s .config .«ram_len»)) _ .0 e in
+    let b = and-eq-true-iff (leb 1 (s .config .«ram_len»)) _ .0 (a .0) in
+    let d = and-eq-true-iff (incomingOk (s .incoming)) _ .0 (a .1) in
     record {
       ram-some = leb-true 1 (s .config .«ram_len») (b .0);
       ram-small = leb-true (s .config .«ram_len») 131072 (b .1);

@@ -2,7 +2,7 @@
 use Prim.Native.Nat.{ℕ, _≤_}
 use mathlib.Core.Path.{_≡_, refl, sym, ap, _∙_, subst}
 use mathlib.Core.Logic.{_↔_, _⊎_, inl, inr}
-use mathlib.Core.Bool.{Bool, true, false, not, _||_}
+use mathlib.Core.Bool.{Bool, true, false, not, _||_, and-eq-true-iff}
 use mathlib.Core.List.{List, [], _∷_, _++_, head-eq-of-cons-eq, tail-eq-of-cons-eq}
 use native.Mathlib.Omega.{arith}
 use lib.Dec.{eqb, leb}
@@ -13,7 +13,7 @@ use Rattle.loader.specs.State.{ramOk, inRange, live, idle, ended}
 use Rattle.loader.specs.Answers.{Report, refused, continues, stopped, started}
 use Rattle.loader.specs.Begin.{waiting, beginning}
 use Rattle.loader.specs.Machine.{refusal}
-use Rattle.loader.proofs.Ranges.{never, both}
+use Rattle.loader.proofs.Ranges.{never}
 use Rattle.loader.proofs.Proved.{loader}
 use Rattle.session.specs.Session.{Call, Entry, entryOf, log, isAccepted, isEnd, hasEnded, refusalIn}
 use Rattle.session.proofs.Acting.{at}
@@ -36,7 +36,7 @@ fresh rec udi m e t = go (eqb (length rec) 256) (ramOk m) refl refl t
   where
     facts : eqb (length rec) 256 ≡ true → ramOk m ≡ true → beginning rec udi m .state ≡ at rec udi m idle waiting → Fresh rec udi m
     facts p q s =
-        let b = both (leb 1 m) (leb m 131072) q in
+        let b = and-eq-true-iff (leb 1 m) (leb m 131072) .0 q in
         record { state = s; size = eqb-true (length rec) 256 p; some = leb-true 1 m (b .0); small = leb-true m 131072 (b .1) }
 
     go : (x y : Bool) → eqb (length rec) 256 ≡ x → ramOk m ≡ y → (numberIn typeField rec ≡ 4) ⊎ (numberIn typeField rec ≡ 5) → Fresh rec udi m

@@ -19,7 +19,7 @@ use Rattle.protocol.specs.Theorems.{Framed, loadWith}
 use Rattle.protocol.proofs.Proved.{protocol}
 use Rattle.protocol.specs.declared.Load.{Load}
 use Rattle.protocol.specs.declared.Reply.{Reply}
-use Rattle.loader.specs.Answers.{refused, continues, started, Outcome}
+use Rattle.loader.specs.Answers.{continues, started, Outcome}
 use Rattle.loader.proofs.Ranges.{never}
 use Rattle.loader.proofs.Steps.{admitted}
 use Rattle.loader.proofs.Proved.{loader}
@@ -28,7 +28,6 @@ use Rattle.client.specs.Replies.{takingAs, taking}
 use Rattle.client.proofs.Proved.{client}
 use Rattle.client.specs.declared.Secret.{Secret}
 use Rattle.session.specs.Reading.{joined, forFirmware, bodyOf, sizeOf, programOf, digestOf, Allowed, chained, measuredId, Starting}
-use Rattle.session.specs.Reading as shape
 use Rattle.session.specs.Session.{Call, Entry, entryOf, log, isAccepted, accepted, receivedBytes, OneRam, Session, allOf, acceptedOf, hasEnded}
 use Rattle.session.specs.Boot.{Start}
 use Rattle.session.specs.Client.{frame, frames, programDigest, digestAt, Made, Heard, Replied, Loads, ClientLoad}

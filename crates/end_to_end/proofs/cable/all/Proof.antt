@@ -2,7 +2,7 @@
 use Prim.Native.Nat.{_≤_, _-_}
 use lib.ListN.{length}
 use borrow.Author.Needs.{needs}
-use mathlib.Core.Path.{_≡_, refl}
+use mathlib.Core.Path.{_≡_}
 use Rattle.end_to_end.proofs.cable.all.Statement.{statement}
 use Rattle.end_to_end.proofs.cable.all.Tie as tie
 
