@@ -1,6 +1,6 @@
 -- The calls of F for the blocks of some data, one after the other.
 use mathlib.Core.Path.{_≡_, refl, ap, sym, _∙_}
-use mathlib.Core.Bool.{false}
+use mathlib.Core.Bool.{Bool, false}
 use mathlib.Core.List.{List, _++_, append-nil}
 use Prim.Native.Nat.{ℕ, zero, suc, _+_, _-_, _*_, _<_, _≤_}
 use native.Mathlib.Nat.{add-zero, zero-add, suc-add}
@@ -8,7 +8,7 @@ use native.Mathlib.Omega.{arith}
 use lib.ListN.{length, take, drop, length-append, length-replicate, length-drop}
 use lib.Seq.{take-append-le, drop-append-le, drop-drop, take-all, length-take-le}
 use Rattle.blake2s.specs.Rfc7693.{F, words, padded, blockAt, Compression, leading, compressed}
-use Rattle.blake2s.specs.Stream.{earlier}
+use Rattle.blake2s.specs.Steps.{compressedBlocks}
 use Rattle.blake2s.proofs.Lists.{each-ext}
 
 pub length-padded : (x : List ℕ) → length x ≤ 64 → length (padded x) ≡ 64
@@ -61,24 +61,29 @@ module _ (h : List ℕ) (t : ℕ) (d : List ℕ) where
       let k : t + (suc i + 1) * 64 ≡ t + 64 + (i + 1) * 64 = omega arith in
       rw (k, e, ← block-behind d 1 i)))
 
--- a turn of the loop over the blocks of d but the last, from at to end
-pub after-step : (h : List ℕ) (t at end : ℕ) (d : List ℕ) → end ≡ at + 64 → 64 < length d - at
-    → after (earlier (length d - end)) (F h (words (take (end - at) (drop at d))) (t + end) false) (t + end) (drop end d)
-    ≡ after (earlier (length d - at)) h (t + at) (drop at d)
-unfolding earlier
-after-step h t at end d e l =
-    let n : earlier (length d - at) ≡ suc (earlier (length d - end)) = omega arith in
-    let a : end - at ≡ 64 = omega arith in
-    let b : t + end ≡ t + at + 64 = omega arith in
-    let f : drop end d ≡ drop 64 (drop at d) = rw (e, ← drop-drop 64 at d) in
-    let k : length (drop at d) ≡ length d - at = length-drop at d in
-    rw (n, a, b, f, after-suc h (t + at) (drop at d) (earlier (length d - end)), block-full (drop at d) 0 (omega arith))
+-- the calls that the code makes for n blocks are these
+pub blocks-after : (n : ℕ) (h : List ℕ) (t : ℕ) (d : List ℕ) → 64 * n ≤ length d → compressedBlocks n h (t + 64) d false ≡ after n h t d
+unfolding compressedBlocks
+blocks-after zero h t d l = sym (after-zero h t d)
+blocks-after (suc n) h t d l =
+    let b : length (drop 64 d) ≡ length d - 64 = length-drop 64 d in
+    rw (after-suc h t d n, block-full d 0 (omega arith)) (blocks-after n (F h (words (take 64 d)) (t + 64) false) (t + 64) (drop 64 d) (omega arith))
 
-pub after-none : (h : List ℕ) (t m : ℕ) (d : List ℕ) → m ≤ 64 → after (earlier m) h t d ≡ h
-unfolding earlier
-after-none h t m d l =
-    let n : earlier m ≡ 0 = omega arith in
-    rw n (after-zero h t d)
+module _ (h : List ℕ) (t : ℕ) (d : List ℕ) (f : Bool) where
+  pub blocks-one : length d ≡ 64 → compressedBlocks 1 h t d f ≡ F h (words d) t f
+  unfolding compressedBlocks
+  blocks-one l = rw (take-all 64 d (omega arith))
+
+  -- a turn of the loop
+  pub blocks-step : (n i : ℕ) → i < n
+      → compressedBlocks (n - (i + 1)) (F h (words (take 64 (drop (64 * i) d))) (t + 64 * i) f) (t + 64 * (i + 1)) (drop (64 * (i + 1)) d) f
+      ≡ compressedBlocks (n - i) h (t + 64 * i) (drop (64 * i) d) f
+  unfolding compressedBlocks
+  blocks-step n i l =
+      let k : n - i ≡ suc (n - (i + 1)) = omega arith in
+      let u : t + 64 * (i + 1) ≡ t + 64 * i + 64 = omega arith in
+      let e : 64 * (i + 1) ≡ 64 * i + 64 = omega arith in
+      rw (k, u, e, ← drop-drop 64 (64 * i) d)
 
 -- n blocks and then k more, where the bytes e come behind those of the n blocks
 pub after-split : (n k : ℕ) (h : List ℕ) (t : ℕ) (d e : List ℕ) → 64 * n ≤ length d

@@ -1,22 +1,20 @@
--- The table of message orders: each has sixteen entries below sixteen, each number once. One computed test over the table says so.
-use mathlib.Core.Path.{_≡_}
+-- The tables of the rounds: each message order has sixteen entries, each number below sixteen once, by a computed test over the table; the
+-- mixings at the rows of positions are the RFC's rounds.
+use mathlib.Core.Path.{_≡_, refl}
 use mathlib.Core.Bool.{Bool}
 use mathlib.Core.List.{List, []}
 use Prim.Native.Nat.{ℕ, _+_, _<_}
-use lib.Dec.{eqb, eqb→eq, ltb, ltb→lt}
+use lib.Dec.{T, eqb, eqb→eq, ltb, ltb→lt}
 use lib.ListN.{length, getD, drop}
 use lib.Seq.{drop-cons}
 use native.Mathlib.Numerals.{add-one}
-use Rattle.blake2s.specs.Rfc7693.{sigma, round, rounds}
-use Rattle.blake2s.specs.Steps.{Order}
+use Rattle.blake2s.specs.Rfc7693.{sigma, round, positions, mixing, TableRound, rounds}
+use Rattle.blake2s.specs.Steps.{Places, fourMixings}
 use Rattle.blake2s.specs.Theorems.{times}
 use Rattle.blake2s.proofs.Table.{below, below-at, all, all-at}
 
 sixteen : List ℕ → Bool
 sixteen s = eqb (length s) 16
-
-small : List ℕ → Bool
-small s = all (λ x. ltb x 16) s
 
 once : List ℕ → Bool
 once s = below 16 (λ k. eqb (times k s) 1)
@@ -26,19 +24,27 @@ module _ (r : ℕ) (h : r < 10) where
   unfolding sigma sixteen
   order-length = eqb→eq (length (getD sigma r [])) 16 (all-at sixteen sigma [] tt r h)
 
-  pub order-at : Order (getD sigma r [])
-  unfolding sigma small
-  order-at = record {
-    below = λ i b. ltb→lt (getD (getD sigma r []) i 0) 16
-        (all-at (λ x. ltb x 16) (getD sigma r []) 0 (all-at small sigma [] tt r h) i (rw order-length b));
-  }
-
   pub order-once : (k : ℕ) → k < 16 → times k (getD sigma r []) ≡ 1
   unfolding sigma once times
   order-once k b = eqb→eq (times k (getD sigma r [])) 1 (below-at 16 (λ j. eqb (times j (getD sigma r [])) 1) (all-at once sigma [] tt r h) k b)
 
--- the rounds that are left, once the first of them is done
-pub rounds-more : (m v : List ℕ) (i : ℕ) → i < 10
-    → rounds m (drop (i + 1) sigma) (round m (getD sigma i []) v) ≡ rounds m (drop i sigma) v
+-- a list of numbers below sixteen, by one computed test
+pub places : (n : ℕ) (s : List ℕ) → length s ≡ n → T (all (λ x. ltb x 16) s) → Places n s
+places n s l t = record { below = λ i h. ltb→lt (getD s i 0) 16 (all-at (λ x. ltb x 16) s 0 t i (rw l h)) }
+
+-- the round over the table is the RFC's
+pub over-table : TableRound
+unfolding mixing positions round
+over-table m s v = refl
+
+-- and so are its two steps, one after the other
+pub both-steps : (m s v : List ℕ) → fourMixings m s 4 (fourMixings m s 0 v) ≡ round m s v
+unfolding fourMixings positions
+both-steps = over-table
+
+-- the rounds that are left, once both steps of round i are done
+pub rounds-more : (m u : List ℕ) {v w : List ℕ} (i : ℕ) → T (ltb i 10)
+    → v ≡ fourMixings m (getD sigma i []) 0 u → w ≡ fourMixings m (getD sigma i []) 4 v
+    → rounds m (drop (i + 1) sigma) w ≡ rounds m (drop i sigma) u
 unfolding rounds sigma
-rounds-more m v i h = rw (add-one, drop-cons sigma i [] h)
+rounds-more m u i h e f = rw (f, e, both-steps, add-one, drop-cons sigma i [] (ltb→lt i 10 h))

@@ -16,7 +16,7 @@ use Rattle.blake2s.specs.declared.Context.{Context}
 use Rattle.blake2s.specs.declared.Answer.{Answer}
 use Rattle.blake2s.specs.declared.Answer.the-variants.{Accepted, ContextRange, OutputLength, KeyLength, MessageLength}
 use Rattle.blake2s.proofs.Lists.{length-each}
-use Rattle.blake2s.proofs.Orders.{order-length, order-once}
+use Rattle.blake2s.proofs.Orders.{order-length, order-once, over-table}
 use Rattle.blake2s.proofs.Vectors.{laid-out}
 use Rattle.blake2s.proofs.Blocks.{block-full}
 use Rattle.blake2s.proofs.Numbers.{hash-accepted, Lengths, accepted-lengths, update-zero, update-accepted, finish-accepted, finish-not-one}
@@ -88,6 +88,7 @@ unfolding sigma blockCount
 hashing = record {
   orders = refl;
   permutation = λ r h. (order-length r h, order-once r h);
+  table = over-table;
   empty = count [] [] (omega arith);
   unkeyed = unkeyed-count;
   keyed = keyed-count;

@@ -1,5 +1,6 @@
 -- BLAKE2s after RFC 7693, in the RFC's order. An array is a list, a word a number below 2^32 and a byte one below 2^8.
 use Prim.Native.Nat.{ℕ, zero, suc, _+_, _-_, _*_, _/_, _%_, _^_}
+use mathlib.Core.Path.{_≡_}
 use mathlib.Core.Bool.{Bool, true, false, cond}
 use mathlib.Core.List.{List, [], _∷_, _++_, foldl}
 use lib.Dec.{eqb}
@@ -121,6 +122,28 @@ round m s v =
     let v6 = G v5 1 6 11 12 (selected m s 10) (selected m s 11) in
     let v7 = G v6 2 7 8 13 (selected m s 12) (selected m s 13) in
     G v7 3 4 9 14 (selected m s 14) (selected m s 15)
+
+-- 3.2: the round's positions a, b, c, d as a table, which the code goes by: the four columns, then the four diagonals
+unfoldable pub positions : List (List ℕ)
+positions =
+    (0 ∷ 4 ∷ 8 ∷ 12 ∷ []) ∷
+    (1 ∷ 5 ∷ 9 ∷ 13 ∷ []) ∷
+    (2 ∷ 6 ∷ 10 ∷ 14 ∷ []) ∷
+    (3 ∷ 7 ∷ 11 ∷ 15 ∷ []) ∷
+    (0 ∷ 5 ∷ 10 ∷ 15 ∷ []) ∷
+    (1 ∷ 6 ∷ 11 ∷ 12 ∷ []) ∷
+    (2 ∷ 7 ∷ 8 ∷ 13 ∷ []) ∷
+    (3 ∷ 4 ∷ 9 ∷ 14 ∷ []) ∷ []
+
+-- mixing i of a round, at row i of the table, with the message words m[s[2i]] and m[s[2i + 1]]
+unfoldable pub mixing : List ℕ → List ℕ → List ℕ → ℕ → List ℕ
+mixing m s v i =
+    let p = getD positions i [] in
+    G v (getD p 0 0) (getD p 1 0) (getD p 2 0) (getD p 3 0) (selected m s (2 * i)) (selected m s (2 * i + 1))
+
+-- what is proved of the table (`table` of `hashing`): the mixings at its rows, from the first to the last, are the round as printed
+abbrev pub TableRound : Type 0
+TableRound = (m s v : List ℕ) → foldl (mixing m s) v (each (length positions) (λ i. i)) ≡ round m s v
 
 -- 3.2: the rounds, one for each order in turn: BLAKE2s has r = 10 of them, so that SIGMA[i mod 10] is SIGMA[i]
 unfoldable pub rounds : List ℕ → List (List ℕ) → List ℕ → List ℕ

@@ -1,8 +1,19 @@
 -- What only the promises of private functions cite. No public promise and no theorem rests on it.
-use Prim.Native.Nat.{ℕ, _<_}
-use mathlib.Core.List.{List}
-use lib.ListN.{getD}
+use Prim.Native.Nat.{ℕ, zero, suc, _+_, _<_}
+use mathlib.Core.Bool.{Bool}
+use mathlib.Core.List.{List, foldl}
+use lib.ListN.{getD, take, drop}
+use Rattle.blake2s.specs.Rfc7693.{each, bb, words, mixing, F}
 
--- each of the sixteen numbers of an order is the place of a message word
-pub record Order (s : List ℕ) : Type 0 where
-  pub below : (i : ℕ) → i < 16 → getD s i 0 < 16
+-- each of the n numbers of s is the place of one of sixteen words: an order has 16 places in the message, a row 4 in the working vector
+pub record Places (n : ℕ) (s : List ℕ) : Type 0 where
+  pub below : (i : ℕ) → i < n → getD s i 0 < 16
+
+-- four mixings of a round, from row k of the table on: the column step from row 0, the diagonal step from row 4
+unfoldable pub fourMixings : List ℕ → List ℕ → ℕ → List ℕ → List ℕ
+fourMixings m s k v = foldl (mixing m s) v (each 4 (λ i. k + i))
+
+-- the state after n blocks of d, of which the first has the counter t
+unfoldable pub compressedBlocks : ℕ → List ℕ → ℕ → List ℕ → Bool → List ℕ
+compressedBlocks zero h t d f = h
+compressedBlocks (suc n) h t d f = compressedBlocks n (F h (words (take bb d)) t f) (t + bb) (drop bb d) f

@@ -7,7 +7,7 @@ use mathlib.Core.Logic.{_↔_}
 use lib.Dec.{eqb}
 use lib.ListN.{length, getD, drop}
 use lib.Bits.{bitXor}
-use Rattle.blake2s.specs.Rfc7693.{each, bb, ceil, iv, sigma, workVector, input, Compression, leading, compressions, blake2s}
+use Rattle.blake2s.specs.Rfc7693.{each, bb, ceil, iv, sigma, workVector, TableRound, input, Compression, leading, compressions, blake2s}
 use Rattle.blake2s.specs.Hash.{numberOf, kept, hashNumber, hashOutput}
 use Rattle.blake2s.specs.Stream.{inRange, beginNumber, beginContext, updateNumber, updateContext, finishNumber, finishOutput}
 use Rattle.blake2s.specs.declared.Answer.{Answer}
@@ -37,6 +37,8 @@ pub record Hashing : Type 0 where
   -- RFC 7693, 2.7: there are ten orders, each a permutation of the sixteen places
   pub orders : length sigma ≡ 10
   pub permutation : (r : ℕ) → r < 10 → (length (getD sigma r []) ≡ 16) × ((k : ℕ) → k < 16 → times k (getD sigma r []) ≡ 1)
+  -- RFC 7693, 3.2: the round over the table of positions is the round as printed
+  pub table : TableRound
   -- document 01, "Hashing": the number of compressions
   pub empty : length (compressions [] []) ≡ 1
   pub unkeyed : (msg : List ℕ) → 0 < length msg → length (compressions [] msg) ≡ ceil (length msg)

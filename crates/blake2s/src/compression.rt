@@ -1,12 +1,13 @@
 // RFC 7693, sections 3.1 and 3.2: the compression of a block.
-// The working vector goes by value through the mixing steps, at places that are literals, so that it stays in registers.
+// The working vector goes by value through the mixings, at positions that are literals once LLVM has inlined them, so that it stays in
+// registers: docs/PROVING.md, "Why the hash is fast".
 ghost use mathlib.Core.Path.{_≡_};
 ghost use Prim.Native.Nat.{_+_, _*_, _%_, _^_, _<_, _≤_};
 ghost use mathlib.Core.Bool.{cond};
 ghost use lib.ListN.{getD, length};
 ghost use lib.Bits.{bitXor};
-ghost use Rattle.blake2s.specs.Rfc7693.{sigma, rotr, added, xorRotated, G, selected, round, rounds, word, words, workVector, F};
-ghost use Rattle.blake2s.specs.Steps.{Order};
+ghost use Rattle.blake2s.specs.Rfc7693.{sigma, rotr, added, xorRotated, G, selected, rounds, word, words, workVector, F};
+ghost use Rattle.blake2s.specs.Steps.{Places, fourMixings};
 
 // RFC 7693, 2.6.
 pub const IV: [u32; 8] = [
@@ -32,6 +33,18 @@ const SIGMA: [[u8; 16]; 10] = [
     [13, 11, 7, 14, 12, 1, 3, 9, 5, 0, 15, 4, 8, 6, 2, 10],
     [6, 15, 14, 9, 11, 3, 0, 8, 12, 2, 13, 7, 1, 4, 10, 5],
     [10, 2, 8, 4, 7, 6, 1, 5, 15, 11, 9, 14, 3, 12, 13, 0],
+];
+
+// RFC 7693, 3.2: the positions of the eight mixings of a round, the four columns and then the four diagonals.
+const POSITIONS: [[usize; 4]; 8] = [
+    [0, 4, 8, 12],
+    [1, 5, 9, 13],
+    [2, 6, 10, 14],
+    [3, 7, 11, 15],
+    [0, 5, 10, 15],
+    [1, 6, 11, 12],
+    [2, 7, 8, 13],
+    [3, 4, 9, 14],
 ];
 
 // x rotated right by n bits.
@@ -93,57 +106,87 @@ fn word_at(m: &[u32; 16], i: u8) -> u32
 
 // m[s[j]].
 fn select(m: &[u32; 16], s: [u8; 16], j: usize) -> u32
-    requires { ⌜ (j < 16) × Order s ⌝ }
+    requires { ⌜ (j < 16) × Places 16 s ⌝ }
     ensures { λ r. ⌜ r ≡ selected (now (m .entry)) s j ⌝ }
 {
     word_at(m, s[j])
 }
 
-// G with the message words 2i and 2i + 1 of the order s.
-fn step(
-    m: &[u32; 16],
-    s: [u8; 16],
-    i: usize,
-    v: [u32; 16],
-    a: usize,
-    b: usize,
-    c: usize,
-    d: usize,
-) -> [u32; 16]
-    requires { ⌜ Order s × (i < 8) × (a < 16) × (b < 16) × (c < 16) × (d < 16) ⌝ }
-    ensures { λ r. ⌜ r ≡ G v a b c d (selected (now (m .entry)) s (2 * i)) (selected (now (m .entry)) s (2 * i + 1)) ⌝ }
+// Mixing i of a round, at a row p of the table: G with the message words 2i and 2i + 1 of the order s.
+fn mix_row(m: &[u32; 16], s: [u8; 16], v: [u32; 16], i: usize, p: [usize; 4]) -> [u32; 16]
+    requires { ⌜ Places 16 s × (i < 8) × Places 4 p ⌝ }
+    ensures { λ r. ⌜ r ≡ G v (getD p 0 0) (getD p 1 0) (getD p 2 0) (getD p 3 0) (selected (now (m .entry)) s (2 * i)) (selected (now (m .entry)) s (2 * i + 1)) ⌝ }
 {
-    mix(v, a, b, c, d, select(m, s, 2 * i), select(m, s, 2 * i + 1))
+    let x = select(m, s, 2 * i);
+    let y = select(m, s, 2 * i + 1);
+    mix(v, p[0], p[1], p[2], p[3], x, y)
 }
 
-// A round: the columns, then the diagonals.
-fn round(m: &[u32; 16], s: [u8; 16], v: [u32; 16]) -> [u32; 16]
-    requires { ⌜ Order s ⌝ }
-    ensures { λ r. ⌜ r ≡ round (now (m .entry)) s v ⌝ }
+// v, word by word. It changes nothing; without it LLVM joins words in pairs, and the hash takes twice the time.
+fn apart(v: [u32; 16]) -> [u32; 16]
+    ensures { λ r. ⌜ r ≡ v ⌝ }
 {
-    let v1 = step(m, s, 0, v, 0, 4, 8, 12);
-    let v2 = step(m, s, 1, v1, 1, 5, 9, 13);
-    let v3 = step(m, s, 2, v2, 2, 6, 10, 14);
-    let v4 = step(m, s, 3, v3, 3, 7, 11, 15);
-    let v5 = step(m, s, 4, v4, 0, 5, 10, 15);
-    let v6 = step(m, s, 5, v5, 1, 6, 11, 12);
-    let v7 = step(m, s, 6, v6, 2, 7, 8, 13);
-    step(m, s, 7, v7, 3, 4, 9, 14)
+    [
+        v[0],
+        v[1],
+        v[2],
+        v[3],
+        v[4],
+        v[5],
+        v[6],
+        v[7],
+        v[8],
+        v[9],
+        v[10],
+        v[11],
+        v[12],
+        v[13],
+        v[14],
+        v[15],
+    ]
 }
 
-// The ten rounds. One call in a loop and the table copied once, for speed: docs/DECISIONS.md, 15.
+// The column step, the first half of a round: rows 0 to 3 of the table.
+fn column_step(m: &[u32; 16], s: [u8; 16], v: [u32; 16]) -> [u32; 16]
+    requires { ⌜ Places 16 s ⌝ }
+    ensures { λ r. ⌜ r ≡ fourMixings (now (m .entry)) s 0 v ⌝ }
+{
+    let p = POSITIONS;
+    let v1 = mix_row(m, s, v, 0, p[0]);
+    let v2 = mix_row(m, s, v1, 1, p[1]);
+    let v3 = mix_row(m, s, v2, 2, p[2]);
+    let v4 = mix_row(m, s, v3, 3, p[3]);
+    apart(v4)
+}
+
+// The diagonal step, the second half of a round: rows 4 to 7.
+fn diagonal_step(m: &[u32; 16], s: [u8; 16], v: [u32; 16]) -> [u32; 16]
+    requires { ⌜ Places 16 s ⌝ }
+    ensures { λ r. ⌜ r ≡ fourMixings (now (m .entry)) s 4 v ⌝ }
+{
+    let p = POSITIONS;
+    let v1 = mix_row(m, s, v, 4, p[4]);
+    let v2 = mix_row(m, s, v1, 5, p[5]);
+    let v3 = mix_row(m, s, v2, 6, p[6]);
+    let v4 = mix_row(m, s, v3, 7, p[7]);
+    apart(v4)
+}
+
+// The ten rounds, written out and in halves, which is what LLVM inlines: docs/DECISIONS.md, 15.
 fn rounds(v: [u32; 16], m: &[u32; 16]) -> [u32; 16]
     ensures { λ r. ⌜ r ≡ rounds (now (m .entry)) sigma v ⌝ }
 {
-    let table = SIGMA;
-    let mut w = v;
-    let mut i: usize = 0;
-    while i < 10 {
-        let next = round(m, table[i], w);
-        w = next;
-        i = i + 1;
-    }
-    w
+    let s = SIGMA;
+    let v1 = diagonal_step(m, s[0], column_step(m, s[0], v));
+    let v2 = diagonal_step(m, s[1], column_step(m, s[1], v1));
+    let v3 = diagonal_step(m, s[2], column_step(m, s[2], v2));
+    let v4 = diagonal_step(m, s[3], column_step(m, s[3], v3));
+    let v5 = diagonal_step(m, s[4], column_step(m, s[4], v4));
+    let v6 = diagonal_step(m, s[5], column_step(m, s[5], v5));
+    let v7 = diagonal_step(m, s[6], column_step(m, s[6], v6));
+    let v8 = diagonal_step(m, s[7], column_step(m, s[7], v7));
+    let v9 = diagonal_step(m, s[8], column_step(m, s[8], v8));
+    diagonal_step(m, s[9], column_step(m, s[9], v9))
 }
 
 // RFC 7693, 2.4: a word of four bytes, lowest first.
@@ -218,6 +261,14 @@ fn work_vector(h: [u32; 8], t: u64, last: bool) -> [u32; 16]
     ]
 }
 
+// Word i of the next state: h[i] ^ v[i] ^ v[i + 8].
+fn next_word(h: [u32; 8], v: [u32; 16], i: usize) -> u32
+    requires { ⌜ i < 8 ⌝ }
+    ensures { λ r. ⌜ r ≡ bitXor (bitXor (getD h i 0) (getD v i 0)) (getD v (i + 8) 0) ⌝ }
+{
+    h[i] ^ v[i] ^ v[i + 8]
+}
+
 // The compression function F on a block of 64 bytes.
 pub fn compress(h: [u32; 8], b: &[u8], t: u64, last: bool) -> [u32; 8]
     requires { ⌜ 64 ≤ length (now b) ⌝ }
@@ -226,13 +277,13 @@ pub fn compress(h: [u32; 8], b: &[u8], t: u64, last: bool) -> [u32; 8]
     let m = read_words(b);
     let v = rounds(work_vector(h, t, last), &m);
     [
-        h[0] ^ v[0] ^ v[8],
-        h[1] ^ v[1] ^ v[9],
-        h[2] ^ v[2] ^ v[10],
-        h[3] ^ v[3] ^ v[11],
-        h[4] ^ v[4] ^ v[12],
-        h[5] ^ v[5] ^ v[13],
-        h[6] ^ v[6] ^ v[14],
-        h[7] ^ v[7] ^ v[15],
+        next_word(h, v, 0),
+        next_word(h, v, 1),
+        next_word(h, v, 2),
+        next_word(h, v, 3),
+        next_word(h, v, 4),
+        next_word(h, v, 5),
+        next_word(h, v, 6),
+        next_word(h, v, 7),
     ]
 }

@@ -6,7 +6,8 @@ ghost use mathlib.Core.Path.{_≡_};
 ghost use Prim.Native.Nat.{_+_, _*_, _/_, _%_, _^_, _<_, _≤_};
 ghost use lib.Seq.{paste};
 ghost use lib.ListN.{getD, length, take};
-ghost use Rattle.blake2s.specs.Rfc7693.{bytes, padded, leading, compressed, initial};
+ghost use Rattle.blake2s.specs.Rfc7693.{bytes, padded, initial};
+ghost use Rattle.blake2s.specs.Steps.{compressedBlocks};
 ghost use Rattle.blake2s.specs.Stream.{earlier, total, done, waiting, begun, extended, closed, inRange};
 
 pub fn in_range(c: Context) -> bool
@@ -93,19 +94,20 @@ fn waiting_block(c: Context) -> [u8; 64]
     pad(&block[..n])
 }
 
-// The state after all blocks of d but the last, where t bytes came before.
-fn whole_blocks(h: [u32; 8], t: u64, d: &[u8]) -> [u32; 8]
-    requires { ⌜ t + length (now d) < 2 ^ 63 ⌝ }
-    ensures { λ r. ⌜ r ≡ compressed h (leading (earlier (length (now (d .entry)))) t (now (d .entry))) ⌝ }
+// The state after the first n blocks of d, of which the first has the counter t. All blocks are compressed by this one call, which puts
+// compress into the loop and the state in registers: docs/DECISIONS.md, 15.
+fn compress_blocks(h: [u32; 8], t: u64, d: &[u8], n: usize, last: bool) -> [u32; 8]
+    requires { ⌜ (64 * n ≤ length (now d)) × (t + 64 * n < 2 ^ 63) ⌝ }
+    ensures { λ r. ⌜ r ≡ compressedBlocks n h t (now (d .entry)) last ⌝ }
 {
-    let n = d.len();
     let mut s = h;
-    let mut at: usize = 0;
-    while 64 < n - at {
+    let mut i: usize = 0;
+    while i < n {
+        let at = 64 * i;
         let end = at + 64;
-        let next = compress(s, &d[at..end], t + (end as u64), false);
+        let next = compress(s, &d[at..end], t + (at as u64), last);
         s = next;
-        at = end;
+        i = i + 1;
     }
     s
 }
@@ -151,10 +153,10 @@ fn extended_long(c: Context, s: &[u8]) -> Context
     let room = 64 - n;
     let block = append(waiting_block(c), n, &s[..room]);
     let t = bytes_in(c) + (room as u64);
-    let next = compress(h, &block, t, false);
+    let next = compress_blocks(h, t, &block, 1, false);
     let rest = &s[room..];
-    let end = whole_blocks(next, t, rest);
     let from = before_final(rest.len() as u64) as usize;
+    let end = compress_blocks(next, t + 64, rest, from / 64, false);
     Context {
         h: end,
         block: pad(&rest[from..]),
@@ -211,6 +213,6 @@ pub fn closed(c: Context, out: &mut [u8])
 {
     let h = c.h;
     let last = waiting_block(c);
-    let end = compress(h, &last, bytes_in(c), true);
+    let end = compress_blocks(h, bytes_in(c), &last, 1, true);
     write_bytes(&end, out);
 }

@@ -1,50 +1,76 @@
--- The rounds that are left, on the vector so far, give what all rounds give on the first vector.
-use mathlib.Core.Path.{_≡_, refl, _∙_}
-use Prim.Native.Nat.{_≤_, _-_}
-use lib.ListN.{drop}
-use native.Mathlib.Omega.{arith}
+-- After each round the rounds that are left give what all ten give on the first vector.
+use mathlib.Core.Path.{refl, _∙_}
 use Rattle.blake2s.specs.Rfc7693.{sigma, rounds}
-use Rattle.blake2s.proofs.Orders.{order-at, rounds-more}
+use Rattle.blake2s.proofs.Orders.{places, rounds-more}
 use borrow.Author.Needs.{needs}
 use Rattle.blake2s.proofs.compression.rounds.Statement.{statement}
 use Rattle.blake2s.proofs.compression.rounds.Tie as tie
 
-abbrev Inv-loop : tie.InvT-loop
-Inv-loop m table w₀ i₀ w i = (i ≤ 10) × (rounds m (drop i sigma) w ≡ rounds m sigma w₀)
-
-abbrev μ-loop : tie.MeasureT-loop
-μ-loop m table w₀ i₀ w i = 10 - i
-
-loop-holds : tie.Need-loop-holds Inv-loop μ-loop
-loop-holds c = (omega arith, refl)
-
-round-requires : tie.Need-round-requires Inv-loop μ-loop
-unfolding sigma
-round-requires c κs = order-at (c .before .before .loop .i) (omega arith)
-
-loop-again : tie.Need-loop-again Inv-loop μ-loop
-unfolding sigma
-loop-again c =
-    let b = c .before .before .before in
-    (omega arith, rw (c .round .ensures) (rounds-more _ _ (b .loop .i) (omega arith) ∙ b .loop .inv .1))
-
-returns : tie.Need-returns Inv-loop μ-loop
-unfolding sigma rounds
+returns : tie.Need-returns
+unfolding rounds sigma
 returns c =
-    let e : c .before .loop .i ≡ 10 = omega arith in
-    rw e at (c .before .loop .inv .1)
+    let c9 = c .before .before .before .before in
+    let c8 = c9 .before .before .before .before in
+    let c7 = c8 .before .before .before .before in
+    let c6 = c7 .before .before .before .before in
+    let c5 = c6 .before .before .before .before in
+    let c4 = c5 .before .before .before .before in
+    let c3 = c4 .before .before .before .before in
+    let c2 = c3 .before .before .before .before in
+    let c1 = c2 .before .before .before .before in
+    rounds-more _ _ 9 tt (c .before .column-step10 .ensures) (c .diagonal-step10 .ensures)
+    ∙ rounds-more _ _ 8 tt (c9 .before .column-step9 .ensures) (c9 .diagonal-step9 .ensures)
+    ∙ rounds-more _ _ 7 tt (c8 .before .column-step8 .ensures) (c8 .diagonal-step8 .ensures)
+    ∙ rounds-more _ _ 6 tt (c7 .before .column-step7 .ensures) (c7 .diagonal-step7 .ensures)
+    ∙ rounds-more _ _ 5 tt (c6 .before .column-step6 .ensures) (c6 .diagonal-step6 .ensures)
+    ∙ rounds-more _ _ 4 tt (c5 .before .column-step5 .ensures) (c5 .diagonal-step5 .ensures)
+    ∙ rounds-more _ _ 3 tt (c4 .before .column-step4 .ensures) (c4 .diagonal-step4 .ensures)
+    ∙ rounds-more _ _ 2 tt (c3 .before .column-step3 .ensures) (c3 .diagonal-step3 .ensures)
+    ∙ rounds-more _ _ 1 tt (c2 .before .column-step2 .ensures) (c2 .diagonal-step2 .ensures)
+    ∙ rounds-more _ _ 0 tt (c1 .before .column-step .ensures) (c1 .diagonal-step .ensures)
 
 pub rounds-spec : {M : Type 1} → statement M
 rounds-spec =
     tie.close
     (tie.spec
-    Inv-loop
-    μ-loop
-    loop-holds
     (λ c. search needs)
     (λ c. search needs)
-    round-requires
+    (λ c κs. places 16 _ refl tt)
+    (λ c κs. places 16 _ refl tt)
     (λ c. search needs)
     (λ c. search needs)
-    loop-again
+    (λ c κs. places 16 _ refl tt)
+    (λ c κs. places 16 _ refl tt)
+    (λ c. search needs)
+    (λ c. search needs)
+    (λ c κs. places 16 _ refl tt)
+    (λ c κs. places 16 _ refl tt)
+    (λ c. search needs)
+    (λ c. search needs)
+    (λ c κs. places 16 _ refl tt)
+    (λ c κs. places 16 _ refl tt)
+    (λ c. search needs)
+    (λ c. search needs)
+    (λ c κs. places 16 _ refl tt)
+    (λ c κs. places 16 _ refl tt)
+    (λ c. search needs)
+    (λ c. search needs)
+    (λ c κs. places 16 _ refl tt)
+    (λ c κs. places 16 _ refl tt)
+    (λ c. search needs)
+    (λ c. search needs)
+    (λ c κs. places 16 _ refl tt)
+    (λ c κs. places 16 _ refl tt)
+    (λ c. search needs)
+    (λ c. search needs)
+    (λ c κs. places 16 _ refl tt)
+    (λ c κs. places 16 _ refl tt)
+    (λ c. search needs)
+    (λ c. search needs)
+    (λ c κs. places 16 _ refl tt)
+    (λ c κs. places 16 _ refl tt)
+    (λ c. search needs)
+    (λ c. search needs)
+    (λ c κs. places 16 _ refl tt)
+    (λ c κs. places 16 _ refl tt)
     returns)

@@ -1,12 +1,14 @@
 -- The law `extended-long`, with what the calls ensure.
 use mathlib.Core.Path.{_≡_, refl, sym}
-use Prim.Native.Nat.{_-_, _*_, _<_}
+use mathlib.Core.Bool.{false}
+use Prim.Native.Nat.{_+_, _-_, _*_, _/_, _<_}
 use native.Mathlib.Omega.{arith}
-use lib.ListN.{length, drop, length-take, length-drop}
+use lib.ListN.{length, take, drop, length-take, length-drop}
 use lib.Seq.{length-take-le}
 use Rattle.blake2s.specs.Stream.{earlier}
 use Rattle.blake2s.proofs.Lists.{drop-whole}
-use Rattle.blake2s.proofs.Contexts.{total-bound, extended-long}
+use Rattle.blake2s.proofs.Blocks.{blocks-one, blocks-after}
+use Rattle.blake2s.proofs.Contexts.{total-bound, last-fits, extended-long}
 use borrow.Author.Needs.{needs}
 use Rattle.blake2s.proofs.stream.extended_long.Statement.{statement}
 use Rattle.blake2s.proofs.stream.extended_long.Tie as tie
@@ -14,6 +16,9 @@ use Rattle.blake2s.proofs.stream.extended_long.Tie as tie
 -- an array's length is a fact of its type
 block-length : (z : tie.Start) → length (z .args .c .block) ≡ 64
 block-length z = search (needs, z .good .0)
+
+full-length : (z : tie.After-append) → length (z .append .result) ≡ 64
+full-length z = search needs
 
 slice-aggregate-append : tie.Need-slice-aggregate-append
 slice-aggregate-append c =
@@ -29,19 +34,33 @@ add-t c =
     let o = total-bound (b .before .before .before .args .c) in
     omega arith
 
-whole-blocks-requires : tie.Need-whole-blocks-requires
-whole-blocks-requires c κs =
-    let b = c .before .before .before in
-    let f = b .before .before .before .before in
+compress-blocks-requires : tie.Need-compress-blocks-requires
+compress-blocks-requires c κs =
+    let f = c .before .before .before .before .before in
     let o = total-bound (f .before .before .before .args .c) in
-    simp (length-take, length-drop) (omega arith)
+    (omega arith, omega arith)
+
+add-compress-blocks : tie.Need-add-compress-blocks
+add-compress-blocks c =
+    let f = c .before .before .before .before .before .before .before .before in
+    let o = total-bound (f .before .before .before .args .c) in
+    omega arith
+
+compress-blocks-requires-2 : tie.Need-compress-blocks-requires-2
+compress-blocks-requires-2 c κs =
+    let f = c .before .before .before .before .before .before .before .before in
+    let a = f .before .before .before .args in
+    let o = total-bound (a .c) in
+    let room = 64 - f .fill .result in
+    let l : length (take (length (a .s .now) - room) (drop room (a .s .now))) ≡ length (a .s .now) - room = simp (length-take, length-drop) (omega arith) in
+    (omega arith, omega arith)
 
 returns : tie.Need-returns
 returns c =
     let p = c .before in
-    let q = p .before .before in
-    let w = q .before in
-    let k = w .before .before in
+    let w = p .before .before in
+    let q = w .before in
+    let k = q .before .before in
     let b = k .before .before in
     let u = b .before in
     let h = u .before .before in
@@ -52,16 +71,21 @@ returns c =
     let room = 64 - f .fill .result in
     let long : room < length (a .s .now) = omega arith in
     let rest = drop room (a .s .now) in
+    let n = earlier (length rest) in
+    let v : 64 * n / 64 ≡ n = omega arith in
     rw (
       p .pad .ensures,
-      w .whole-blocks .ensures,
-      k .compress .ensures,
+      w .compress-blocks2 .ensures,
+      k .compress-blocks .ensures,
+      q .before-final .ensures .0,
+      drop-whole room (a .s .now),
+      v,
+      blocks-one (a .c .h) (b .bytes-in .result + room) (u .append .result) false (full-length u),
+      blocks-after n _ (b .bytes-in .result + room) rest (last-fits (length rest) .0),
       u .append .ensures,
       h .waiting-block .ensures,
       b .bytes-in .ensures,
-      q .before-final .ensures .0,
-      drop-whole room (a .s .now),
-      drop-whole (64 * earlier (length rest)) rest,
+      drop-whole (64 * n) rest,
     )
     (extended-long (a .c) l (a .s .now) (f .fill .result) room rest (f .fill .ensures .0) (f .fill .ensures .1) refl long refl)
 
@@ -77,12 +101,13 @@ extended-long-spec =
     (λ c κs. search needs)
     add-t
     (λ c. search needs)
+    compress-blocks-requires
+    (λ c. search needs)
+    (λ c. search needs)
+    (λ c. search needs)
     (λ c κs. search needs)
-    (λ c. search needs)
-    (λ c. search needs)
-    (λ c. search needs)
-    whole-blocks-requires
-    (λ c κs. search needs)
+    add-compress-blocks
+    compress-blocks-requires-2
     (λ c. search needs)
     (λ c. search needs)
     (λ c. search needs)

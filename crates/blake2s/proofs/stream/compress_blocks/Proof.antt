@@ -1,20 +1,20 @@
 -- The blocks that are left, on the state so far, give what all of them give on the first state.
-use mathlib.Core.Path.{_≡_, refl, _∙_, sym}
-use Prim.Native.Nat.{_≤_, _+_, _-_}
+use mathlib.Core.Path.{_≡_, refl, _∙_}
+use Prim.Native.Nat.{_≤_, _<_, _+_, _-_, _*_}
 use native.Mathlib.Omega.{arith}
 use native.Mathlib.Nat.{add-zero, sub-zero}
 use lib.ListN.{length, drop, length-take, length-drop}
-use Rattle.blake2s.specs.Stream.{earlier}
-use Rattle.blake2s.proofs.Blocks.{after, after-step, after-none}
+use Rattle.blake2s.specs.Steps.{compressedBlocks}
+use Rattle.blake2s.proofs.Blocks.{blocks-step}
 use borrow.Author.Needs.{needs}
-use Rattle.blake2s.proofs.stream.whole_blocks.Statement.{statement}
-use Rattle.blake2s.proofs.stream.whole_blocks.Tie as tie
+use Rattle.blake2s.proofs.stream.compress_blocks.Statement.{statement}
+use Rattle.blake2s.proofs.stream.compress_blocks.Tie as tie
 
 abbrev Inv-loop : tie.InvT-loop
-Inv-loop t d n s₀ at₀ s at = (at ≤ length d) × (after (earlier (length d - at)) s (t + at) (drop at d) ≡ after (earlier (length d)) s₀ t d)
+Inv-loop t d n last s₀ i₀ s i = (i ≤ n) × (compressedBlocks (n - i) s (t + 64 * i) (drop (64 * i) d) last ≡ compressedBlocks n s₀ t d last)
 
 abbrev μ-loop : tie.MeasureT-loop
-μ-loop t d n s₀ at₀ s at = length d - at
+μ-loop t d n last s₀ i₀ s i = n - i
 
 loop-holds : tie.Need-loop-holds Inv-loop μ-loop
 loop-holds c = (omega arith, rw (add-zero, sub-zero))
@@ -25,19 +25,20 @@ compress-requires c κs = simp (length-take, length-drop) (omega arith)
 loop-again : tie.Need-loop-again Inv-loop μ-loop
 loop-again c =
     let b = c .before .before .before in
-    let a = b .before .before .args in (
-      omega arith,
-      rw (c .compress .ensures) (after-step (b .loop .s) (a .t) (b .loop .at) (b .loop .at + 64) (a .d .now) refl (omega arith) ∙ b .loop .inv .1),
-    )
+    let a = b .before .before .args in
+    let i = b .loop .i in
+    let w : 64 * i + 64 - 64 * i ≡ 64 = omega arith in
+    (omega arith, rw (c .compress .ensures, w) (blocks-step (b .loop .s) (a .t) (a .d .now) (a .last) (a .n) i (omega arith) ∙ b .loop .inv .1))
 
 returns : tie.Need-returns Inv-loop μ-loop
+unfolding compressedBlocks
 returns c =
     let b = c .before in
-    let a = b .before .before .args in
-    sym (after-none (b .loop .s) (a .t + b .loop .at) (length (a .d .now) - b .loop .at) (drop (b .loop .at) (a .d .now)) (omega arith)) ∙ b .loop .inv .1
+    let e : b .before .before .args .n - b .loop .i ≡ 0 = omega arith in
+    rw e at (b .loop .inv .1)
 
-pub whole-blocks-spec : {M : Type 1} → statement M
-whole-blocks-spec =
+pub compress-blocks-spec : {M : Type 1} → statement M
+compress-blocks-spec =
     tie.close
     (tie.spec
     Inv-loop
@@ -50,6 +51,7 @@ whole-blocks-spec =
     (λ c. search needs)
     (λ c. search needs)
     compress-requires
+    (λ c. search needs)
     (λ c. search needs)
     loop-again
     returns)
