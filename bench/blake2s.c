@@ -1,6 +1,6 @@
 /*
  * Time of the proved BLAKE2s over that of its peers, all in this one run, for unkeyed 32-byte hashes.
- * Each figure is the best of several rounds, in which all take turns.
+ * Each figure is the best of several turns.
  */
 #include <openssl/evp.h>
 #include <stdio.h>
@@ -13,7 +13,7 @@
 
 #include "mastfrap.h"
 
-#define ROUNDS 15
+#define TURNS 15
 
 /* The most that the proved code may take of the time of plain C, and the size at which it counts. */
 #define LIMIT 0.85
@@ -66,14 +66,14 @@ static double now(void)
     return t.tv_sec + 1e-9 * t.tv_nsec;
 }
 
-/* The best time of each peer for as many calls on n bytes; exits where a hash differs from the proved one. */
+/* The best time of each peer for that many calls on n bytes; exits where a hash differs from the proved one. */
 static void measure(const uint8_t *msg, size_t n, size_t calls, double best[])
 {
     uint8_t out[PEERS][32];
 
     for (int p = 0; p < PEERS; p++)
         best[p] = 1e9;
-    for (int r = 0; r < ROUNDS; r++)
+    for (int r = 0; r < TURNS; r++)
         for (int p = 0; p < PEERS; p++) {
             double t = now();
             for (size_t q = 0; q < calls; q++)
@@ -84,7 +84,7 @@ static void measure(const uint8_t *msg, size_t n, size_t calls, double best[])
         }
     for (int p = 1; p < PEERS; p++)
         if (memcmp(out[0], out[p], 32) != 0) {
-            fprintf(stderr, "blake2s: %s has another hash of %zu bytes\n", peers[p].name, n);
+            fprintf(stderr, "blake2s: %s and the proved code give different hashes of %zu bytes\n", peers[p].name, n);
             exit(1);
         }
 }
@@ -93,7 +93,7 @@ int main(void)
 {
     static const size_t sizes[] = {64, 1 << 10, LIMIT_SIZE, 64 << 20};
     uint8_t *msg = malloc(sizes[3]);
-    int slow = 0;
+    double ratio = 0;
 
     if (msg == NULL)
         abort();
@@ -111,11 +111,13 @@ int main(void)
         for (int p = 1; p < PEERS; p++)
             printf("%*.2f", (int)strlen(peers[p].name) + 10, best[0] / best[p]);
         printf("\n");
-        if (n == LIMIT_SIZE && best[0] > LIMIT * best[1])
-            slow = 1;
+        if (n == LIMIT_SIZE)
+            ratio = best[0] / best[1];
     }
-    if (slow)
-        fprintf(stderr, "blake2s: over %.2f of the time of plain C at %d bytes: the rounds are not inlined (docs/PROVING.md)\n", LIMIT,
-                LIMIT_SIZE);
-    return slow;
+    if (ratio > LIMIT) {
+        fprintf(stderr, "blake2s: %.2f of the time of plain C at %d bytes is over %.2f: docs/PROVING.md, \"Why the hash is fast\"\n",
+                ratio, LIMIT_SIZE, LIMIT);
+        return 1;
+    }
+    return 0;
 }

@@ -40,50 +40,62 @@ block-behind d n i =
     let e : 64 * (n + i) ≡ 64 * n + 64 * i = omega arith in
     rw (e, ← drop-drop (64 * i) (64 * n) d)
 
--- the state after the first n blocks of d, where t bytes came before
+-- blocks one after the other: none, and the first of several
+module _ (h : List ℕ) (t : ℕ) (d : List ℕ) (f : Bool) where
+  pub blocks-none : compressedBlocks h t d 0 f ≡ h
+  unfolding compressedBlocks compressed
+  blocks-none = refl
+
+  pub blocks-suc : (n : ℕ) → compressedBlocks h t d (suc n) f ≡ compressedBlocks (F h (words (blockAt d 0)) t f) (t + 64) (drop 64 d) n f
+  unfolding compressedBlocks compressed
+  blocks-suc n =
+      rw add-zero
+      (ap (λ (cs : List Compression). compressed (F h (words (blockAt d 0)) t f) cs)
+      (each-ext n
+      (λ i. record { block = blockAt d (suc i); counter = t + 64 * suc i; last = f })
+      (λ i. record { block = blockAt (drop 64 d) i; counter = t + 64 + 64 * i; last = f })
+      (λ i.
+      let e : suc i ≡ 1 + i = omega arith in
+      let k : t + 64 * suc i ≡ t + 64 + 64 * i = omega arith in
+      rw (k, e, ← block-behind d 1 i))))
+
+pub blocks-one : (h : List ℕ) (t : ℕ) (d : List ℕ) (f : Bool) → length d ≡ 64 → compressedBlocks h t d 1 f ≡ F h (words d) t f
+blocks-one h t d f l = rw (blocks-suc h t d f 0, block-full d 0 (omega arith), take-all 64 d (omega arith), blocks-none)
+
+-- a turn of the loop over n blocks, at block i
+pub blocks-step : (h : List ℕ) (t : ℕ) (d : List ℕ) (f : Bool) (n i : ℕ) → i < n → 64 * n ≤ length d
+    → compressedBlocks (F h (words (take 64 (drop (64 * i) d))) (t + 64 * i) f) (t + 64 * (i + 1)) (drop (64 * (i + 1)) d) (n - (i + 1)) f
+    ≡ compressedBlocks h (t + 64 * i) (drop (64 * i) d) (n - i) f
+blocks-step h t d f n i l b =
+    let k : n - i ≡ suc (n - (i + 1)) = omega arith in
+    let u : t + 64 * (i + 1) ≡ t + 64 * i + 64 = omega arith in
+    let e : 64 * (i + 1) ≡ 64 * i + 64 = omega arith in
+    let g : length (drop (64 * i) d) ≡ length d - 64 * i = length-drop (64 * i) d in
+    rw (k, u, e, ← drop-drop 64 (64 * i) d, blocks-suc h (t + 64 * i) (drop (64 * i) d) f (n - (i + 1)), block-full (drop (64 * i) d) 0 (omega arith))
+
+-- the state after the first n blocks of d, where t bytes came before and none of them is final
 abbrev pub after : ℕ → List ℕ → ℕ → List ℕ → List ℕ
 after n h t d = compressed h (leading n t d)
 
-module _ (h : List ℕ) (t : ℕ) (d : List ℕ) where
-  pub after-zero : after 0 h t d ≡ h
-  unfolding leading compressed
-  after-zero = refl
+pub after-blocks : (h : List ℕ) (t : ℕ) (d : List ℕ) (n : ℕ) → compressedBlocks h (t + 64) d n false ≡ after n h t d
+unfolding compressedBlocks leading
+after-blocks h t d n =
+    ap (compressed h)
+    (each-ext n
+    (λ i. record { block = blockAt d i; counter = t + 64 + 64 * i; last = false })
+    (λ i. record { block = blockAt d i; counter = t + (i + 1) * 64; last = false })
+    (λ i.
+    let k : t + 64 + 64 * i ≡ t + (i + 1) * 64 = omega arith in
+    rw k))
 
-  pub after-suc : (n : ℕ) → after (suc n) h t d ≡ after n (F h (words (blockAt d 0)) (t + 64) false) (t + 64) (drop 64 d)
-  unfolding leading compressed
-  after-suc n =
-      ap (λ (cs : List Compression). compressed (F h (words (blockAt d 0)) (t + 64) false) cs)
-      (each-ext n
-      (λ i. record { block = blockAt d (suc i); counter = t + (suc i + 1) * 64; last = false })
-      (λ i. record { block = blockAt (drop 64 d) i; counter = t + 64 + (i + 1) * 64; last = false })
-      (λ i.
-      let e : suc i ≡ 1 + i = omega arith in
-      let k : t + (suc i + 1) * 64 ≡ t + 64 + (i + 1) * 64 = omega arith in
-      rw (k, e, ← block-behind d 1 i)))
+pub after-zero : (h : List ℕ) (t : ℕ) (d : List ℕ) → after 0 h t d ≡ h
+after-zero h t d = sym (after-blocks h t d 0) ∙ blocks-none h (t + 64) d false
 
--- the calls that the code makes for n blocks are these
-pub blocks-after : (n : ℕ) (h : List ℕ) (t : ℕ) (d : List ℕ) → 64 * n ≤ length d → compressedBlocks n h (t + 64) d false ≡ after n h t d
-unfolding compressedBlocks
-blocks-after zero h t d l = sym (after-zero h t d)
-blocks-after (suc n) h t d l =
-    let b : length (drop 64 d) ≡ length d - 64 = length-drop 64 d in
-    rw (after-suc h t d n, block-full d 0 (omega arith)) (blocks-after n (F h (words (take 64 d)) (t + 64) false) (t + 64) (drop 64 d) (omega arith))
-
-module _ (h : List ℕ) (t : ℕ) (d : List ℕ) (f : Bool) where
-  pub blocks-one : length d ≡ 64 → compressedBlocks 1 h t d f ≡ F h (words d) t f
-  unfolding compressedBlocks
-  blocks-one l = rw (take-all 64 d (omega arith))
-
-  -- a turn of the loop
-  pub blocks-step : (n i : ℕ) → i < n
-      → compressedBlocks (n - (i + 1)) (F h (words (take 64 (drop (64 * i) d))) (t + 64 * i) f) (t + 64 * (i + 1)) (drop (64 * (i + 1)) d) f
-      ≡ compressedBlocks (n - i) h (t + 64 * i) (drop (64 * i) d) f
-  unfolding compressedBlocks
-  blocks-step n i l =
-      let k : n - i ≡ suc (n - (i + 1)) = omega arith in
-      let u : t + 64 * (i + 1) ≡ t + 64 * i + 64 = omega arith in
-      let e : 64 * (i + 1) ≡ 64 * i + 64 = omega arith in
-      rw (k, u, e, ← drop-drop 64 (64 * i) d)
+pub after-suc : (h : List ℕ) (t : ℕ) (d : List ℕ) (n : ℕ)
+    → after (suc n) h t d ≡ after n (F h (words (blockAt d 0)) (t + 64) false) (t + 64) (drop 64 d)
+after-suc h t d n =
+    sym (after-blocks h t d (suc n)) ∙ blocks-suc h (t + 64) d false n
+    ∙ after-blocks (F h (words (blockAt d 0)) (t + 64) false) (t + 64) (drop 64 d) n
 
 -- n blocks and then k more, where the bytes e come behind those of the n blocks
 pub after-split : (n k : ℕ) (h : List ℕ) (t : ℕ) (d e : List ℕ) → 64 * n ≤ length d

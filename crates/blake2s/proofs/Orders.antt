@@ -1,5 +1,5 @@
 -- The tables of the rounds: each message order has sixteen entries, each number below sixteen once, by a computed test over the table; the
--- mixings at the rows of positions are the RFC's rounds.
+-- mixings at the rows of positions make the RFC's round.
 use mathlib.Core.Path.{_≡_, refl}
 use mathlib.Core.Bool.{Bool}
 use mathlib.Core.List.{List, []}

@@ -88,7 +88,7 @@ unfolding sigma blockCount
 hashing = record {
   orders = refl;
   permutation = λ r h. (order-length r h, order-once r h);
-  table = over-table;
+  by-table = over-table;
   empty = count [] [] (omega arith);
   unkeyed = unkeyed-count;
   keyed = keyed-count;

@@ -123,7 +123,8 @@ round m s v =
     let v7 = G v6 2 7 8 13 (selected m s 12) (selected m s 13) in
     G v7 3 4 9 14 (selected m s 14) (selected m s 15)
 
--- 3.2: the round's positions a, b, c, d as a table, which the code goes by: the four columns, then the four diagonals
+-- 3.2 as a table (change request 4): the positions a, b, c, d of a round's mixings, columns and then diagonals. The code goes by it; the hash
+-- is defined by the round above.
 unfoldable pub positions : List (List ℕ)
 positions =
     (0 ∷ 4 ∷ 8 ∷ 12 ∷ []) ∷
@@ -141,7 +142,7 @@ mixing m s v i =
     let p = getD positions i [] in
     G v (getD p 0 0) (getD p 1 0) (getD p 2 0) (getD p 3 0) (selected m s (2 * i)) (selected m s (2 * i + 1))
 
--- what is proved of the table (`table` of `hashing`): the mixings at its rows, from the first to the last, are the round as printed
+-- what is proved of it (`by-table` of `hashing`): the mixings at its rows, from the first to the last, are the round as printed
 abbrev pub TableRound : Type 0
 TableRound = (m s v : List ℕ) → foldl (mixing m s) v (each (length positions) (λ i. i)) ≡ round m s v
 

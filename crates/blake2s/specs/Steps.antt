@@ -1,9 +1,9 @@
 -- What only the promises of private functions cite. No public promise and no theorem rests on it.
-use Prim.Native.Nat.{ℕ, zero, suc, _+_, _<_}
+use Prim.Native.Nat.{ℕ, _+_, _*_, _<_}
 use mathlib.Core.Bool.{Bool}
 use mathlib.Core.List.{List, foldl}
-use lib.ListN.{getD, take, drop}
-use Rattle.blake2s.specs.Rfc7693.{each, bb, words, mixing, F}
+use lib.ListN.{getD}
+use Rattle.blake2s.specs.Rfc7693.{each, bb, mixing, blockAt, compressed}
 
 -- each of the n numbers of s is the place of one of sixteen words: an order has 16 places in the message, a row 4 in the working vector
 pub record Places (n : ℕ) (s : List ℕ) : Type 0 where
@@ -13,7 +13,6 @@ pub record Places (n : ℕ) (s : List ℕ) : Type 0 where
 unfoldable pub fourMixings : List ℕ → List ℕ → ℕ → List ℕ → List ℕ
 fourMixings m s k v = foldl (mixing m s) v (each 4 (λ i. k + i))
 
--- the state after n blocks of d, of which the first has the counter t
-unfoldable pub compressedBlocks : ℕ → List ℕ → ℕ → List ℕ → Bool → List ℕ
-compressedBlocks zero h t d f = h
-compressedBlocks (suc n) h t d f = compressedBlocks n (F h (words (take bb d)) t f) (t + bb) (drop bb d) f
+-- the state after the first n blocks of d, each with the flag f; the first has the counter t
+unfoldable pub compressedBlocks : List ℕ → ℕ → List ℕ → ℕ → Bool → List ℕ
+compressedBlocks h t d n f = compressed h (each n (λ i. record { block = blockAt d i; counter = t + bb * i; last = f }))

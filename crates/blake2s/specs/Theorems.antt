@@ -38,7 +38,7 @@ pub record Hashing : Type 0 where
   pub orders : length sigma ≡ 10
   pub permutation : (r : ℕ) → r < 10 → (length (getD sigma r []) ≡ 16) × ((k : ℕ) → k < 16 → times k (getD sigma r []) ≡ 1)
   -- RFC 7693, 3.2: the round over the table of positions is the round as printed
-  pub table : TableRound
+  pub by-table : TableRound
   -- document 01, "Hashing": the number of compressions
   pub empty : length (compressions [] []) ≡ 1
   pub unkeyed : (msg : List ℕ) → 0 < length msg → length (compressions [] msg) ≡ ceil (length msg)

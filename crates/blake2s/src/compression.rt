@@ -1,6 +1,6 @@
 // RFC 7693, sections 3.1 and 3.2: the compression of a block.
-// The working vector goes by value through the mixings, at positions that are literals once LLVM has inlined them, so that it stays in
-// registers: docs/PROVING.md, "Why the hash is fast".
+// The working vector goes by value through the mixings. Once LLVM has inlined them every position is a constant, and the vector is sixteen
+// scalars and no array in memory: docs/PROVING.md, "Why the hash is fast".
 ghost use mathlib.Core.Path.{_≡_};
 ghost use Prim.Native.Nat.{_+_, _*_, _%_, _^_, _<_, _≤_};
 ghost use mathlib.Core.Bool.{cond};

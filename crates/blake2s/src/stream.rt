@@ -94,11 +94,11 @@ fn waiting_block(c: Context) -> [u8; 64]
     pad(&block[..n])
 }
 
-// The state after the first n blocks of d, of which the first has the counter t. All blocks are compressed by this one call, which puts
-// compress into the loop and the state in registers: docs/DECISIONS.md, 15.
+// The state after the first n blocks of d, each with the flag last; the first has the counter t. compress is called here and nowhere else,
+// so that LLVM inlines it into the loop: docs/PROVING.md, "Why the hash is fast".
 fn compress_blocks(h: [u32; 8], t: u64, d: &[u8], n: usize, last: bool) -> [u32; 8]
     requires { ⌜ (64 * n ≤ length (now d)) × (t + 64 * n < 2 ^ 63) ⌝ }
-    ensures { λ r. ⌜ r ≡ compressedBlocks n h t (now (d .entry)) last ⌝ }
+    ensures { λ r. ⌜ r ≡ compressedBlocks h t (now (d .entry)) n last ⌝ }
 {
     let mut s = h;
     let mut i: usize = 0;

@@ -14,7 +14,16 @@ returns c =
     let c3 = c4 .before in
     let c2 = c3 .before in
     let c1 = c2 .before in
-    rw (c .xor-rotate4 .ensures, c7 .add4 .ensures, c6 .xor-rotate3 .ensures, c5 .add3 .ensures, c4 .xor-rotate2 .ensures, c3 .add2 .ensures, c2 .xor-rotate .ensures, c1 .add .ensures)
+    rw (
+      c .xor-rotate4 .ensures,
+      c7 .add4 .ensures,
+      c6 .xor-rotate3 .ensures,
+      c5 .add3 .ensures,
+      c4 .xor-rotate2 .ensures,
+      c3 .add2 .ensures,
+      c2 .xor-rotate .ensures,
+      c1 .add .ensures,
+    )
 
 pub mix-spec : {M : Type 1} → statement M
 mix-spec =

@@ -1,5 +1,5 @@
 -- The two message words are those that `select` gives, and the row's places are positions of the vector.
-use native.Mathlib.Omega.{arith}
+use lib.Dec.{ltb→lt}
 use borrow.Author.Needs.{needs}
 use Rattle.blake2s.proofs.compression.mix_row.Statement.{statement}
 use Rattle.blake2s.proofs.compression.mix_row.Tie as tie
@@ -7,7 +7,7 @@ use Rattle.blake2s.proofs.compression.mix_row.Tie as tie
 mix-requires : tie.Need-mix-requires
 mix-requires c κs =
     let b = c .before .before .pre .2 .below in
-    (b 0 (omega arith), b 1 (omega arith), b 2 (omega arith), b 3 (omega arith))
+    (b 0 (ltb→lt 0 4 tt), b 1 (ltb→lt 1 4 tt), b 2 (ltb→lt 2 4 tt), b 3 (ltb→lt 3 4 tt))
 
 returns : tie.Need-returns
 returns c = rw (c .mix .ensures, c .before .select2 .ensures, c .before .before .select .ensures)

@@ -1,6 +1,5 @@
 -- What waits is compressed as the final block, and the hash is the front of the state.
 use mathlib.Core.Path.{_≡_}
-use mathlib.Core.Bool.{true}
 use native.Mathlib.Omega.{arith}
 use lib.ListN.{length}
 use Rattle.blake2s.specs.Stream.{closed}
@@ -28,7 +27,7 @@ returns c =
     rw (
       w .write-bytes .ensures,
       k .compress-blocks .ensures,
-      blocks-one (z .args .c .h) (y .bytes-in .result) (b .waiting-block .result) true l,
+      blocks-one _ _ _ _ l,
       y .bytes-in .ensures,
       b .waiting-block .ensures,
       z .pre .0,

@@ -1,17 +1,17 @@
 -- The blocks that are left, on the state so far, give what all of them give on the first state.
-use mathlib.Core.Path.{_≡_, refl, _∙_}
-use Prim.Native.Nat.{_≤_, _<_, _+_, _-_, _*_}
+use mathlib.Core.Path.{_≡_, sym, _∙_}
+use Prim.Native.Nat.{_≤_, _+_, _-_, _*_}
 use native.Mathlib.Omega.{arith}
 use native.Mathlib.Nat.{add-zero, sub-zero}
-use lib.ListN.{length, drop, length-take, length-drop}
+use lib.ListN.{drop, length-take, length-drop}
 use Rattle.blake2s.specs.Steps.{compressedBlocks}
-use Rattle.blake2s.proofs.Blocks.{blocks-step}
+use Rattle.blake2s.proofs.Blocks.{blocks-none, blocks-step}
 use borrow.Author.Needs.{needs}
 use Rattle.blake2s.proofs.stream.compress_blocks.Statement.{statement}
 use Rattle.blake2s.proofs.stream.compress_blocks.Tie as tie
 
 abbrev Inv-loop : tie.InvT-loop
-Inv-loop t d n last s₀ i₀ s i = (i ≤ n) × (compressedBlocks (n - i) s (t + 64 * i) (drop (64 * i) d) last ≡ compressedBlocks n s₀ t d last)
+Inv-loop t d n last s₀ i₀ s i = (i ≤ n) × (compressedBlocks s (t + 64 * i) (drop (64 * i) d) (n - i) last ≡ compressedBlocks s₀ t d n last)
 
 abbrev μ-loop : tie.MeasureT-loop
 μ-loop t d n last s₀ i₀ s i = n - i
@@ -28,14 +28,14 @@ loop-again c =
     let a = b .before .before .args in
     let i = b .loop .i in
     let w : 64 * i + 64 - 64 * i ≡ 64 = omega arith in
-    (omega arith, rw (c .compress .ensures, w) (blocks-step (b .loop .s) (a .t) (a .d .now) (a .last) (a .n) i (omega arith) ∙ b .loop .inv .1))
+    (omega arith, rw (c .compress .ensures, w) (blocks-step (b .loop .s) (a .t) (a .d .now) (a .last) (a .n) i (omega arith) (omega arith) ∙ b .loop .inv .1))
 
 returns : tie.Need-returns Inv-loop μ-loop
-unfolding compressedBlocks
 returns c =
     let b = c .before in
-    let e : b .before .before .args .n - b .loop .i ≡ 0 = omega arith in
-    rw e at (b .loop .inv .1)
+    let a = b .before .before .args in
+    let e : a .n - b .loop .i ≡ 0 = omega arith in
+    sym (blocks-none (b .loop .s) (a .t + 64 * b .loop .i) (drop (64 * b .loop .i) (a .d .now)) (a .last)) ∙ (rw e at (b .loop .inv .1))
 
 pub compress-blocks-spec : {M : Type 1} → statement M
 compress-blocks-spec =

@@ -1,14 +1,13 @@
 -- The law `extended-long`, with what the calls ensure.
 use mathlib.Core.Path.{_≡_, refl, sym}
-use mathlib.Core.Bool.{false}
 use Prim.Native.Nat.{_+_, _-_, _*_, _/_, _<_}
 use native.Mathlib.Omega.{arith}
 use lib.ListN.{length, take, drop, length-take, length-drop}
 use lib.Seq.{length-take-le}
 use Rattle.blake2s.specs.Stream.{earlier}
 use Rattle.blake2s.proofs.Lists.{drop-whole}
-use Rattle.blake2s.proofs.Blocks.{blocks-one, blocks-after}
-use Rattle.blake2s.proofs.Contexts.{total-bound, last-fits, extended-long}
+use Rattle.blake2s.proofs.Blocks.{blocks-one, after-blocks}
+use Rattle.blake2s.proofs.Contexts.{total-bound, extended-long}
 use borrow.Author.Needs.{needs}
 use Rattle.blake2s.proofs.stream.extended_long.Statement.{statement}
 use Rattle.blake2s.proofs.stream.extended_long.Tie as tie
@@ -17,6 +16,7 @@ use Rattle.blake2s.proofs.stream.extended_long.Tie as tie
 block-length : (z : tie.Start) → length (z .args .c .block) ≡ 64
 block-length z = search (needs, z .good .0)
 
+-- and so is that of an array which a call gives
 full-length : (z : tie.After-append) → length (z .append .result) ≡ 64
 full-length z = search needs
 
@@ -40,15 +40,19 @@ compress-blocks-requires c κs =
     let o = total-bound (f .before .before .before .args .c) in
     (omega arith, omega arith)
 
+-- the point behind `fill`, from that before the second call of `compress_blocks`
+abbrev filled : tie.After-before-final → tie.After-fill
+filled c = c .before .before .before .before .before .before .before .before
+
 add-compress-blocks : tie.Need-add-compress-blocks
 add-compress-blocks c =
-    let f = c .before .before .before .before .before .before .before .before in
+    let f = filled c in
     let o = total-bound (f .before .before .before .args .c) in
     omega arith
 
 compress-blocks-requires-2 : tie.Need-compress-blocks-requires-2
 compress-blocks-requires-2 c κs =
-    let f = c .before .before .before .before .before .before .before .before in
+    let f = filled c in
     let a = f .before .before .before .args in
     let o = total-bound (a .c) in
     let room = 64 - f .fill .result in
@@ -80,8 +84,8 @@ returns c =
       q .before-final .ensures .0,
       drop-whole room (a .s .now),
       v,
-      blocks-one (a .c .h) (b .bytes-in .result + room) (u .append .result) false (full-length u),
-      blocks-after n _ (b .bytes-in .result + room) rest (last-fits (length rest) .0),
+      blocks-one _ _ _ _ (full-length u),
+      after-blocks _ (b .bytes-in .result + room) rest n,
       u .append .ensures,
       h .waiting-block .ensures,
       b .bytes-in .ensures,
