@@ -1,6 +1,6 @@
 /*
  * Time of the proved BLAKE2s over that of its peers, all in this one run, for unkeyed 32-byte hashes.
- * Each figure is the best of several turns.
+ * Each figure is the best of several turns, in each of which all are measured one after the other.
  */
 #include <openssl/evp.h>
 #include <stdio.h>
