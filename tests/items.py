@@ -1,24 +1,27 @@
 #!/usr/bin/env python3
-"""Input and expected output of `headlog`, of the programs for the items of document 01's "Shed bench", line "Run", and of the sample session.
+"""The items of document 01's "Shed bench", line "Run", its example and the sample session: inputs of `headlog`, and what it must print.
 
 Written from document 01, with hashlib for BLAKE2s; no output of ours is stored.
 
     items.py            prints the expected output of each
-    items.py --write    writes crates/NAME/stdin and crates/NAME/stdout, sample/session.bin and sample/printed
+    items.py --write    writes each input to sample/NAME.bin, and the example and the sample's output where the gate looks for them
     items.py --check    exits non-zero, and says what differs, unless these files hold what it makes
+    items.py --play     plays sample/NAME.bin to headlog; exits non-zero unless every line, and how much is read, is as expected
 """
 import hashlib
 import sys
 from pathlib import Path
 
 import stored
+from random_sessions import HEADLOG, wrong
 
 ROOT = Path(__file__).resolve().parent.parent
+SAMPLE = ROOT / "sample"
 
 UDS = bytes(range(0x10, 0x30))
 UDI = bytes(range(0xD0, 0xD8))
 USS = bytes(range(0xA0, 0xC0))
-FULL_RAM = 131072
+RAM = 32768  # of headlog
 PROGRAM = bytes((5 * i + 1) % 256 for i in range(200))
 
 
@@ -83,25 +86,27 @@ def headlog():
 
 
 def bad_sizes():
-    """A size of 0, or over the RAM's length, gets status 1, and the head goes on waiting."""
-    heard = load(0) + load(FULL_RAM + 1, frame_id=1) + load(FULL_RAM, frame_id=2)
-    return record(4) + UDS + UDI + heard, [load_reply(1), load_reply(1, 1), load_reply(0, 2), f"W {len(heard)}"]
+    """A size of 0, or over the RAM's length, gets status 1, and the head goes on waiting: 131,073 is too large for every head."""
+    sizes = [0, 131073, RAM + 1, RAM]
+    heard = b"".join(load(size, frame_id=k) for k, size in enumerate(sizes))
+    replies = [load_reply(int(not 1 <= size <= RAM), k) for k, size in enumerate(sizes)]
+    return record(4) + UDS + UDI + heard, [*replies, f"W {len(heard)}"]
 
 
 def with_flag(flag):
-    """Flag 0 means no user secret, flag 1 that it is used. What comes after the start would stop the head."""
-    data = record(4) + UDS + UDI + load(len(PROGRAM), flag, USS) + b"".join(blocks(PROGRAM)) + b"\xff"
+    """Flag 0 means no user secret, flag 1 that it is used."""
+    data = record(4) + UDS + UDI + load(len(PROGRAM), flag, USS) + b"".join(blocks(PROGRAM))
     return data, [load_reply(0), *block_replies(PROGRAM), start(PROGRAM, USS if flag == 1 else b"")]
 
 
 def flag_2():
     """Any other flag gets status 1, and the head goes on waiting. Nothing of that load is in the start after the next one."""
-    heard = load(100, 2, USS[::-1]) + load(len(PROGRAM), 1, USS, frame_id=1) + b"".join(blocks(PROGRAM)) + b"\xff"
+    heard = load(100, 2, USS[::-1]) + load(len(PROGRAM), 1, USS, frame_id=1) + b"".join(blocks(PROGRAM))
     return record(4) + UDS + UDI + heard, [load_reply(1), load_reply(0, 1), *block_replies(PROGRAM), start(PROGRAM, USS)]
 
 
 def load_while_loading():
-    heard = load(FULL_RAM) + load(FULL_RAM, frame_id=1)
+    heard = load(RAM) + load(RAM, frame_id=1)
     return record(4) + UDS + UDI + heard, [load_reply(0), "F 23"]
 
 
@@ -132,33 +137,28 @@ def sample():
 
 
 ITEMS = {
-    "headlog": headlog(),
     "bad_sizes": bad_sizes(),
     "flag_0": with_flag(0),
     "flag_1": with_flag(1),
     "flag_2": flag_2(),
     "load_while_loading": load_while_loading(),
     "name_with_body_4": name_with_body_4(),
+    "session": sample(),
 }
 
 
 def files():
     """Each file and what it must hold."""
-    for name, (data, lines) in ITEMS.items():
-        yield ROOT / "crates" / name / "stdin", data
-        yield ROOT / "crates" / name / "stdout", text(lines)
-    data, lines = sample()
-    yield ROOT / "sample" / "session.bin", data
-    yield ROOT / "sample" / "printed", text(lines)
+    for name, (data, _) in ITEMS.items():
+        yield SAMPLE / f"{name}.bin", data
+    yield SAMPLE / "printed", text(sample()[1])
+    data, lines = headlog()
+    yield ROOT / "crates" / "headlog" / "stdin", data
+    yield ROOT / "crates" / "headlog" / "stdout", text(lines)
 
 
 def text(lines):
     return "".join(line + "\n" for line in lines).encode()
-
-
-def write(path, want):
-    path.parent.mkdir(parents=True, exist_ok=True)
-    path.write_bytes(want)
 
 
 def check(path, want):
@@ -169,17 +169,29 @@ def check(path, want):
     return stored.check(path, want)
 
 
+def play(name, lines):
+    """0 if headlog prints these lines for an item and reads all of it, and no byte more; otherwise says what is wrong, and gives 1."""
+    data = (SAMPLE / f"{name}.bin").read_bytes()
+    after = b"" if lines[-1].startswith("W") else b"\xff\x10\x01"
+    what = wrong(HEADLOG, data + after, lines, len(data))
+    if what:
+        print(f"{name}: {what}", file=sys.stderr)
+    return int(bool(what))
+
+
 def main(args):
     if args == ["--write"]:
         for path, want in files():
-            write(path, want)
+            path.write_bytes(want)
         return 0
     if args == ["--check"]:
         return max([check(path, want) for path, want in files()])
+    if args == ["--play"]:
+        return max([play(name, lines) for name, (_, lines) in ITEMS.items()])
     if args:
         print(__doc__, file=sys.stderr)
         return 2
-    for name, (_, lines) in [*ITEMS.items(), ("sample", sample())]:
+    for name, (_, lines) in [("headlog", headlog()), *ITEMS.items()]:
         print(f"# {name}", *lines, sep="\n")
     return 0
 

@@ -1,4 +1,5 @@
 pub mod Texts
 pub mod Decimals
 pub mod Outcomes
+pub mod Folds
 pub mod Proved

@@ -1,4 +1,5 @@
 pub mod Lines
+pub mod Output
+pub mod Turns
 pub mod Steps
-pub mod Sessions
 pub mod Theorems

@@ -5,7 +5,7 @@ use mathlib.Core.List.{List, [], _∷_, _++_}
 use lib.Dec.{ltb}
 use lib.ListN.{length, replicate}
 use Rattle.loader.specs.Answers.{Report, refused, continues, stopped, started}
-use Rattle.printer.specs.declared.lines.Line.{Line}
+use Rattle.printer.specs.declared.lines.Text.{Text}
 
 -- a digit below 16: 48 is `0` and 97 is `a`
 abbrev pub hexDigit : ℕ → ℕ
@@ -52,6 +52,6 @@ endLine continues cdi = []
 endLine (stopped k) cdi = stopLine k
 endLine (started address n) cdi = startLine n cdi
 
--- a text at the front of 261 bytes, and zeros behind it
-unfoldable pub lineOf : List ℕ → Line
-lineOf text = record { len = length text; bytes = text ++ replicate (261 - length text) 0 }
+-- lines at the front of 349 bytes, and zeros behind them
+unfoldable pub textOf : List ℕ → Text
+textOf t = record { len = length t; bytes = t ++ replicate (349 - length t) 0 }

@@ -1,31 +1,62 @@
--- What is proved about the lines, besides the promises. The proof is `printer` in proofs/Proved.antt.
-use Prim.Native.Nat.{ℕ, _*_}
+-- What is proved about the output, besides the promises. The proof is `printer` in proofs/Proved.antt.
+use Prim.Native.Nat.{ℕ, _*_, _^_, _<_}
 use mathlib.Core.Path.{_≡_}
-use mathlib.Core.List.{List, [], _∷_}
-use mathlib.Core.Bool.{false}
-use lib.ListN.{length, take}
+use mathlib.Core.List.{List, [], _∷_, _++_}
+use lib.ListN.{length}
+use Rattle.protocol.specs.Replies.{filled}
 use Rattle.loader.specs.State.{zeros}
-use Rattle.loader.specs.Answers.{Outcome}
-use Rattle.printer.specs.Lines.{hexOf, decimalOf, replyLine, waitingLine, stopLine, errorLine, lineOf}
-use Rattle.printer.specs.Sessions.{received, turnOf, opening}
-use Rattle.printer.specs.declared.turns.Turn.{Turn}
+use Rattle.printer.specs.Lines.{hexOf, decimalOf, replyLine, startLine}
+use Rattle.printer.specs.Output.{Output, output}
+use Rattle.printer.specs.Turns.{turns}
 
--- document 01's example: record type 4, all else zero, then bytes 10 01
+-- what is printed, and how many bytes are read
+abbrev pub gives : List ℕ → ℕ → Output
+gives text n = record { printed = text; read = n }
+
+-- a record of type 4, and zeros for all else
 abbrev pub front : List ℕ
 front = 4 ∷ zeros 295
 
-abbrev pub begun : Turn
-begun = opening front 32768
+-- the load of a program of one byte without a user secret, and its block
+abbrev pub load : List ℕ
+load = filled 129 (0x13 ∷ 0x03 ∷ 1 ∷ [])
 
-abbrev pub first : Outcome
-first = received (begun .session) 0x10 (zeros 32768)
+abbrev pub block : List ℕ
+block = filled 129 (0x13 ∷ 0x05 ∷ 0x2a ∷ [])
 
-abbrev pub second : Outcome
-second = received (turnOf 1 first .session) 0x01 (first .ram)
+-- BLAKE2s-256 of that byte, and of 32 zeros, the domain 0 and that digest, both from outside
+abbrev pub digest : List ℕ
+digest =
+    0x4c ∷ 0x76 ∷ 0x40 ∷ 0x1a ∷ 0x20 ∷ 0x32 ∷ 0x52 ∷ 0x70 ∷ 0x62 ∷ 0xb6 ∷ 0x09 ∷ 0x16 ∷ 0xf2 ∷ 0x52 ∷ 0xf4 ∷ 0x1b ∷
+    0x5e ∷ 0x3d ∷ 0x75 ∷ 0xa3 ∷ 0xfa ∷ 0x50 ∷ 0xa6 ∷ 0x37 ∷ 0x6b ∷ 0x3a ∷ 0xed ∷ 0xb9 ∷ 0xf5 ∷ 0x9d ∷ 0x8c ∷ 0x9a ∷ []
+
+abbrev pub cdi : List ℕ
+cdi =
+    0xa1 ∷ 0x9b ∷ 0x60 ∷ 0xba ∷ 0x7c ∷ 0xb2 ∷ 0xdb ∷ 0xc5 ∷ 0xc0 ∷ 0x5b ∷ 0x75 ∷ 0x96 ∷ 0x17 ∷ 0x81 ∷ 0x19 ∷ 0x20 ∷
+    0x60 ∷ 0x77 ∷ 0xbe ∷ 0x1c ∷ 0x05 ∷ 0xce ∷ 0xfb ∷ 0x0c ∷ 0x8a ∷ 0x3b ∷ 0x9c ∷ 0x11 ∷ 0xdf ∷ 0xd0 ∷ 0xc0 ∷ 0x41 ∷ []
 
 pub record Printer : Type 0 where
-  -- what is written of a line, the first `len` of its bytes, is its text
-  pub written : (t : List ℕ) → take (lineOf t .len) (lineOf t .bytes) ≡ t
+  -- the turns that `open` and `advance` promise, one after the other, give this output, for every input and every RAM; the count has 64 bits
+  pub folds : (input : List ℕ) (m : ℕ) → length input < 2 ^ 64 → turns input m ≡ output input m
+  -- document 01's example, the bytes 10 01: its two lines,
+  --   R 1202746b31206d6b64660100000000000000000000000000000000000000000000
+  --   W 2
+  pub example : output (front ++ 0x10 ∷ 0x01 ∷ []) 32768 ≡ gives (
+      82 ∷ 32 ∷
+      49 ∷ 50 ∷ 48 ∷ 50 ∷ 55 ∷ 52 ∷ 54 ∷ 98 ∷ 51 ∷ 49 ∷ 50 ∷ 48 ∷ 54 ∷ 100 ∷ 54 ∷ 98 ∷ 54 ∷ 52 ∷ 54 ∷ 54 ∷ 48 ∷ 49 ∷
+      48 ∷ 48 ∷ 48 ∷ 48 ∷ 48 ∷ 48 ∷ 48 ∷ 48 ∷ 48 ∷ 48 ∷ 48 ∷ 48 ∷ 48 ∷ 48 ∷ 48 ∷ 48 ∷ 48 ∷ 48 ∷ 48 ∷ 48 ∷ 48 ∷ 48 ∷
+      48 ∷ 48 ∷ 48 ∷ 48 ∷ 48 ∷ 48 ∷ 48 ∷ 48 ∷ 48 ∷ 48 ∷ 48 ∷ 48 ∷ 48 ∷ 48 ∷ 48 ∷ 48 ∷ 48 ∷ 48 ∷ 48 ∷ 48 ∷ 48 ∷ 48 ∷
+      10 ∷ 87 ∷ 32 ∷ 50 ∷ 10 ∷ []
+      ) 298
+  -- a start: `R` and the reply to the load, `R` and the reply to the block, `S 1` and the CDI. The byte after it is not read
+  pub start : output (front ++ load ++ block ++ 0xff ∷ []) 1 ≡ gives
+      (replyLine (0x11 ∷ 0x04 ∷ zeros 3) ++ replyLine (0x13 ∷ 0x07 ∷ 0 ∷ digest ++ zeros 94) ++ startLine 1 cdi) 554
+  -- type 0 stops at begin: `F 21`, and nothing is heard
+  pub stop-at-begin : output (zeros 296 ++ 0x10 ∷ 0x01 ∷ []) 32768 ≡ gives (70 ∷ 32 ∷ 50 ∷ 49 ∷ 10 ∷ []) 296
+  -- the header 90: `F 22`
+  pub stop-22 : output (front ++ 0x90 ∷ 0x10 ∷ 0x01 ∷ []) 32768 ≡ gives (70 ∷ 32 ∷ 50 ∷ 50 ∷ 10 ∷ []) 297
+  -- 295 bytes: `E 1`
+  pub short : output (zeros 295) 32768 ≡ gives (69 ∷ 32 ∷ 49 ∷ 10 ∷ []) 295
   -- a byte has two digits: 33 bytes have 66
   pub two : (s : List ℕ) → length (hexOf s) ≡ 2 * length s
   -- the bytes 09 and af, and the numbers 0, 20, 131072 and 2^64 - 1, as they are printed
@@ -34,12 +65,3 @@ pub record Printer : Type 0 where
   pub twenty : decimalOf 20 ≡ 50 ∷ 48 ∷ []
   pub ram : decimalOf 131072 ≡ 49 ∷ 51 ∷ 49 ∷ 48 ∷ 55 ∷ 50 ∷ []
   pub longest : length (decimalOf 18446744073709551615) ≡ 20
-  -- `W 2`, the last line of document 01's example, `F 25` and `E 1`
-  pub waiting : waitingLine 2 ≡ 87 ∷ 32 ∷ 50 ∷ 10 ∷ []
-  pub stop : stopLine 25 ≡ 70 ∷ 32 ∷ 50 ∷ 53 ∷ 10 ∷ []
-  pub error : errorLine 1 ≡ 69 ∷ 32 ∷ 49 ∷ 10 ∷ []
-  -- what is printed of the example: nothing at begin and at its header, the reply at its body
-  pub nothing : (begun .end ≡ lineOf []) × (turnOf 1 first .reply ≡ lineOf []) × (turnOf 1 first .end ≡ lineOf [])
-  pub reply : turnOf 2 second .reply
-      ≡ lineOf (replyLine (0x12 ∷ 0x02 ∷ 0x74 ∷ 0x6b ∷ 0x31 ∷ 0x20 ∷ 0x6d ∷ 0x6b ∷ 0x64 ∷ 0x66 ∷ 0x01 ∷ zeros 22))
-  pub goes-on : turnOf 2 second .over ≡ false

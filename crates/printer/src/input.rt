@@ -1,32 +1,11 @@
-// What comes from standard input: record, UDS and UDI, then the heard bytes.
+// What the first 296 bytes of the input say: record, UDS and UDI.
 ghost use mathlib.Core.Path.{_≡_};
 ghost use Prim.Native.Nat.{_+_, _≤_};
 ghost use lib.ListN.{take, drop};
 ghost use Rattle.blake2s.specs.Rfc7693.{word};
 ghost use Rattle.loader.specs.Begin.{beginningOf, beginning};
-ghost use Rattle.printer.specs.Sessions.{wordsIn};
-use libc::STDIN_FILENO;
+ghost use Rattle.printer.specs.Output.{wordsIn};
 use loader::Begun;
-
-// A heard byte, or the end of the input; a read that fails is an end too.
-pub enum Next {
-    Byte(u8),
-    End,
-}
-
-// Reads record, UDS and UDI, and says whether they are all there.
-pub fn read_front(front: &mut [u8; 296]) -> bool {
-    io::read_full(STDIN_FILENO, front) == 296
-}
-
-// One byte and no more.
-pub fn next_byte() -> Next {
-    let mut byte = [0u8; 1];
-    if libc::read(STDIN_FILENO, &mut byte) == 1 {
-        return Next::Byte(byte[0]);
-    }
-    Next::End
-}
 
 // Begins the session of this record and UDI.
 pub fn begin(front: [u8; 296], ram_len: usize) -> Begun

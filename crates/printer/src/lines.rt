@@ -3,55 +3,55 @@ ghost use mathlib.Core.Path.{_≡_};
 ghost use mathlib.Core.List.{List, [], _∷_, _++_};
 ghost use Prim.Native.Nat.{ℕ, _+_, _*_, _≤_, _<_};
 ghost use lib.ListN.{length, take};
-ghost use Rattle.loader.specs.Answers.{stopNumber, reportOf};
-ghost use Rattle.printer.specs.Lines.{hexDigit, hexOf, decimalOf, replyLine, waitingLine, startLine, stopLine, errorLine, endLine, lineOf};
+ghost use Rattle.loader.specs.Answers.{reportOf};
+ghost use Rattle.printer.specs.Lines.{hexDigit, hexOf, decimalOf, replyLine, startLine, endLine, textOf};
 ghost use Rattle.printer.specs.Steps.{Adds};
 use loader::Answer;
-use loader::Stop;
 
-// A line, its end of line included. A reply has at most 129 bytes, so no line is longer than 261.
-pub struct Line {
+// Some lines, each with its end of line. A reply has at most 129 bytes, so its line has at most 261; a last line has at most 88.
+pub struct Text {
     pub len: usize,
-    // The line at the front, and zeros behind it.
-    pub bytes: [u8; 261],
+    // The lines at the front, and zeros behind them.
+    pub bytes: [u8; 349],
 }
 
 // No line.
-pub fn empty() -> Line
-    ensures { λ r. ⌜ r ≡ lineOf [] ⌝ }
+pub fn empty() -> Text
+    ensures len { λ r. ⌜ r .len ≡ 0 ⌝ }
+    ensures text { λ r. ⌜ r ≡ textOf [] ⌝ }
 {
-    Line {
+    Text {
         len: 0,
-        bytes: [0; 261],
+        bytes: [0; 349],
     }
 }
 
 // A byte more.
-fn put(l: Line, b: u8) -> Line
-    requires { ⌜ l .len < 261 ⌝ }
-    ensures len { λ r. ⌜ r .len ≡ l .len + 1 ⌝ }
-    ensures text { λ r. ⌜ Adds l (b ∷ []) r ⌝ }
+fn put(t: Text, b: u8) -> Text
+    requires { ⌜ t .len < 349 ⌝ }
+    ensures len { λ r. ⌜ r .len ≡ t .len + 1 ⌝ }
+    ensures text { λ r. ⌜ Adds t (b ∷ []) r ⌝ }
 {
-    let at = l.len;
-    let mut bytes = l.bytes;
+    let at = t.len;
+    let mut bytes = t.bytes;
     bytes[at] = b;
-    Line { len: at + 1, bytes }
+    Text { len: at + 1, bytes }
 }
 
 // More bytes.
-fn put_all(l: Line, s: &[u8]) -> Line
-    requires { ⌜ l .len + length (now s) ≤ 261 ⌝ }
-    ensures len { λ r. ⌜ r .len ≡ l .len + length (now (s .entry)) ⌝ }
-    ensures text { λ r. ⌜ Adds l (now (s .entry)) r ⌝ }
+fn put_all(t: Text, s: &[u8]) -> Text
+    requires { ⌜ t .len + length (now s) ≤ 349 ⌝ }
+    ensures len { λ r. ⌜ r .len ≡ t .len + length (now (s .entry)) ⌝ }
+    ensures text { λ r. ⌜ Adds t (now (s .entry)) r ⌝ }
 {
-    let mut line = l;
+    let mut text = t;
     let mut i: usize = 0;
     while i < s.len() {
-        let next = put(line, s[i]);
-        line = next;
+        let next = put(text, s[i]);
+        text = next;
         i += 1;
     }
-    line
+    text
 }
 
 // The digit of a number below 16.
@@ -63,54 +63,56 @@ fn hex_digit(d: u8) -> u8
 }
 
 // The two digits of a byte.
-fn put_byte(l: Line, b: u8) -> Line
-    requires { ⌜ l .len + 2 ≤ 261 ⌝ }
-    ensures len { λ r. ⌜ r .len ≡ l .len + 2 ⌝ }
-    ensures text { λ r. ⌜ Adds l (hexOf (b ∷ [])) r ⌝ }
+fn put_byte(t: Text, b: u8) -> Text
+    requires { ⌜ t .len + 2 ≤ 349 ⌝ }
+    ensures len { λ r. ⌜ r .len ≡ t .len + 2 ⌝ }
+    ensures text { λ r. ⌜ Adds t (hexOf (b ∷ [])) r ⌝ }
 {
-    put(put(l, hex_digit(b / 16)), hex_digit(b % 16))
+    put(put(t, hex_digit(b / 16)), hex_digit(b % 16))
 }
 
 // The digits of bytes.
-fn put_hex(l: Line, s: &[u8]) -> Line
-    requires { ⌜ l .len + 2 * length (now s) ≤ 261 ⌝ }
-    ensures len { λ r. ⌜ r .len ≡ l .len + 2 * length (now (s .entry)) ⌝ }
-    ensures text { λ r. ⌜ Adds l (hexOf (now (s .entry))) r ⌝ }
+fn put_hex(t: Text, s: &[u8]) -> Text
+    requires { ⌜ t .len + 2 * length (now s) ≤ 349 ⌝ }
+    ensures len { λ r. ⌜ r .len ≡ t .len + 2 * length (now (s .entry)) ⌝ }
+    ensures text { λ r. ⌜ Adds t (hexOf (now (s .entry))) r ⌝ }
 {
-    let mut line = l;
+    let mut text = t;
     let mut i: usize = 0;
     while i < s.len() {
-        let next = put_byte(line, s[i]);
-        line = next;
+        let next = put_byte(text, s[i]);
+        text = next;
         i += 1;
     }
-    line
+    text
 }
 
 // The digits of a number.
-fn put_decimal(l: Line, n: u64) -> Line
-    requires { ⌜ l .len + 20 ≤ 261 ⌝ }
-    ensures len { λ r. ⌜ r .len ≤ l .len + 20 ⌝ }
-    ensures text { λ r. ⌜ Adds l (decimalOf n) r ⌝ }
+fn put_decimal(t: Text, n: u64) -> Text
+    requires { ⌜ t .len + 20 ≤ 349 ⌝ }
+    ensures len { λ r. ⌜ r .len ≤ t .len + 20 ⌝ }
+    ensures text { λ r. ⌜ Adds t (decimalOf n) r ⌝ }
 {
     let mut digits = [0u8; 20];
     let k = io::decimal(n, &mut digits);
-    put_all(l, &digits[..k])
+    put_all(t, &digits[..k])
 }
 
 // The front of a line: its letter and a space.
-fn letter(b: u8) -> Line
-    ensures len { λ r. ⌜ r .len ≡ 2 ⌝ }
-    ensures text { λ r. ⌜ r ≡ lineOf (b ∷ 32 ∷ []) ⌝ }
+fn letter(t: Text, b: u8) -> Text
+    requires { ⌜ t .len + 2 ≤ 349 ⌝ }
+    ensures len { λ r. ⌜ r .len ≡ t .len + 2 ⌝ }
+    ensures text { λ r. ⌜ Adds t (b ∷ 32 ∷ []) r ⌝ }
 {
-    put(put(empty(), b), b' ')
+    put(put(t, b), b' ')
 }
 
-// A letter and a number.
-fn numbered(b: u8, n: u64) -> Line
-    ensures { λ r. ⌜ r ≡ lineOf (b ∷ 32 ∷ decimalOf n ++ 10 ∷ []) ⌝ }
+// The line of a letter and a number.
+pub fn numbered(t: Text, b: u8, n: u64) -> Text
+    requires { ⌜ t .len ≤ 261 ⌝ }
+    ensures { λ r. ⌜ Adds t (b ∷ 32 ∷ decimalOf n ++ 10 ∷ []) r ⌝ }
 {
-    put(put_decimal(letter(b), n), b'\n')
+    put(put_decimal(letter(t, b), n), b'\n')
 }
 
 // n, or 129 if that is less.
@@ -122,50 +124,32 @@ fn within_room(n: usize) -> usize
 }
 
 // A reply: the first n bytes of the room.
-pub fn reply_line(room: [u8; 129], n: usize) -> Line
-    ensures { λ r. ⌜ r ≡ lineOf (replyLine (take n room)) ⌝ }
+pub fn reply_line(room: [u8; 129], n: usize) -> Text
+    ensures len { λ r. ⌜ r .len ≤ 261 ⌝ }
+    ensures text { λ r. ⌜ r ≡ textOf (replyLine (take n room)) ⌝ }
 {
     let k = within_room(n);
-    put(put_hex(letter(b'R'), &room[..k]), b'\n')
-}
-
-// The input ended, and so many bytes were heard.
-pub fn waiting_line(heard: u64) -> Line
-    ensures { λ r. ⌜ r ≡ lineOf (waitingLine heard) ⌝ }
-{
-    numbered(b'W', heard)
+    put(put_hex(letter(empty(), b'R'), &room[..k]), b'\n')
 }
 
 // A start.
-pub fn start_line(size: u32, cdi: [u8; 32]) -> Line
-    ensures { λ r. ⌜ r ≡ lineOf (startLine size cdi) ⌝ }
+fn start_line(t: Text, size: u32, cdi: [u8; 32]) -> Text
+    requires { ⌜ t .len ≤ 261 ⌝ }
+    ensures { λ r. ⌜ Adds t (startLine size cdi) r ⌝ }
 {
-    let sized = put(put_decimal(letter(b'S'), size as u64), b' ');
+    let sized = put(put_decimal(letter(t, b'S'), size as u64), b' ');
     put(put_hex(sized, &cdi), b'\n')
 }
 
-// A stop.
-pub fn stop_line(why: Stop) -> Line
-    ensures { λ r. ⌜ r ≡ lineOf (stopLine (stopNumber why)) ⌝ }
-{
-    numbered(b'F', loader::stop_number(why) as u64)
-}
-
-// A session that could not be had.
-pub fn error_line(number: u8) -> Line
-    ensures { λ r. ⌜ r ≡ lineOf (errorLine number) ⌝ }
-{
-    numbered(b'E', number as u64)
-}
-
 // The last line of a session that is over; none for one that goes on.
-pub fn end_line(answer: Answer, cdi: [u8; 32]) -> Line
-    ensures { λ r. ⌜ r ≡ lineOf (endLine (reportOf answer) cdi) ⌝ }
+pub fn end_line(t: Text, answer: Answer, cdi: [u8; 32]) -> Text
+    requires { ⌜ t .len ≤ 261 ⌝ }
+    ensures { λ r. ⌜ Adds t (endLine (reportOf answer) cdi) r ⌝ }
 {
     match answer {
-        Answer::Continue => empty(),
-        Answer::Refused(why) => error_line(loader::refusal_number(why)),
-        Answer::Stopped(why) => stop_line(why),
-        Answer::Started { address: _, size } => start_line(size, cdi),
+        Answer::Continue => t,
+        Answer::Refused(why) => numbered(t, b'E', loader::refusal_number(why) as u64),
+        Answer::Stopped(why) => numbered(t, b'F', loader::stop_number(why) as u64),
+        Answer::Started { address: _, size } => start_line(t, size, cdi),
     }
 }

@@ -1,12 +1,14 @@
 // A session from byte to byte, and what is printed of it.
 ghost use mathlib.Core.Path.{_≡_};
-ghost use Prim.Native.Nat.{_+_, _-_, _^_, _<_};
+ghost use Prim.Native.Nat.{_≤_};
 ghost use Rattle.loader.specs.Answers.{reportOf};
-ghost use Rattle.printer.specs.Lines.{lineOf};
-ghost use Rattle.printer.specs.Sessions.{received, replyText, isOver, turnOf, opening};
+ghost use Rattle.printer.specs.Lines.{textOf};
+ghost use Rattle.printer.specs.Output.{replyText, isOver};
+ghost use Rattle.printer.specs.Turns.{opened, opening, turned, ramAfter, waited};
+ghost use Rattle.printer.specs.declared.turns.Next.the-variants as next;
 use super::input;
 use super::lines;
-use super::lines::Line;
+use super::lines::Text;
 use loader::Answer;
 use loader::State;
 
@@ -18,21 +20,39 @@ pub struct Session {
     pub heard: u64,
 }
 
-// What begin or a heard byte leads to.
+// A heard byte, or the end of the input.
+pub enum Next {
+    Byte(u8),
+    End,
+}
+
+// What is to be written now, and whether that is all; if not, the session that the next turn goes on with.
 pub struct Turn {
     pub session: Session,
-    // The reply's line; empty if there is none.
-    pub reply: Line,
-    // The last line; empty while the session goes on.
-    pub end: Line,
-    // Whether the session is over.
+    pub text: Text,
     pub over: bool,
 }
 
-// Begins a session with record, UDS and UDI. Only a RAM that no head can have is refused; document 01 has no line for that, and it is
-// printed as `E 7`.
-pub fn open(front: [u8; 296], ram_len: usize) -> Turn
-    ensures { λ r. ⌜ r ≡ opening front «ram_len» ⌝ }
+// The first turn: of the first 296 bytes of the input so many were got, and zeros stand for the others. Only a RAM that no head can have is
+// refused; document 01 has no line for that, and it is printed as `E 7`.
+pub fn open(front: [u8; 296], got: usize, ram_len: usize) -> Turn
+    ensures { λ r. ⌜ r ≡ opening front got «ram_len» ⌝ }
+{
+    let t = begin(front, ram_len);
+    if got < 296 {
+        let session = t.session;
+        return Turn {
+            session,
+            text: lines::numbered(lines::empty(), b'E', 1),
+            over: true,
+        };
+    }
+    t
+}
+
+// Begins a session with record, UDS and UDI.
+fn begin(front: [u8; 296], ram_len: usize) -> Turn
+    ensures { λ r. ⌜ r ≡ opened front «ram_len» ⌝ }
 {
     let words = input::words_of(front);
     let begun = input::begin(front, ram_len);
@@ -44,18 +64,42 @@ pub fn open(front: [u8; 296], ram_len: usize) -> Turn
             words,
             heard: 0,
         },
-        reply: lines::empty(),
-        end: lines::end_line(answer, [0; 32]),
+        text: lines::end_line(lines::empty(), answer, [0; 32]),
         over: is_over(answer),
     }
 }
 
-// Hears a byte. It is refused only where RAM has not the length that it had at begin, or the session is over: `play` does neither.
-pub fn hear(s: Session, byte: u8, ram: &mut [u8]) -> Turn
-    requires { ⌜ s .heard < 2 ^ 64 - 1 ⌝ }
-    ensures turn { λ r. ⌜ r ≡ turnOf (s .heard + 1) (received s byte (now (ram .entry))) ⌝ }
-    ensures ram { λ r. ⌜ now (ram .exit) ≡ received s byte (now (ram .entry)) .ram ⌝ }
+// Every other turn, with the RAM that the turn before left. A byte is refused only where RAM has not the length that it had at the first
+// turn, or the session is over; it is then printed as `E` and the number.
+pub fn advance(s: Session, next: Next, ram: &mut [u8]) -> Turn
+    ensures turn { λ r. ⌜ r ≡ turned s next (now (ram .entry)) ⌝ }
+    ensures ram { λ r. ⌜ now (ram .exit) ≡ ramAfter s next (now (ram .entry)) ⌝ }
 {
+    match next {
+        Next::End => wait(s),
+        Next::Byte(b) => hear(s, b, ram),
+    }
+}
+
+// The input has ended.
+fn wait(s: Session) -> Turn
+    ensures { λ r. ⌜ r ≡ waited s ⌝ }
+{
+    Turn {
+        session: s,
+        text: lines::numbered(lines::empty(), b'W', s.heard),
+        over: true,
+    }
+}
+
+// Hears a byte. Nothing says that an input ends, and the count does at 2^64 - 1: there the session ends as if the input did.
+fn hear(s: Session, byte: u8, ram: &mut [u8]) -> Turn
+    ensures turn { λ r. ⌜ r ≡ turned s (next.Byte byte) (now (ram .entry)) ⌝ }
+    ensures ram { λ r. ⌜ now (ram .exit) ≡ ramAfter s (next.Byte byte) (now (ram .entry)) ⌝ }
+{
+    if s.heard == u64::MAX {
+        return wait(s);
+    }
     let state = s.state;
     let mut words = s.words;
     let mut room = [0u8; 129];
@@ -69,15 +113,15 @@ pub fn hear(s: Session, byte: u8, ram: &mut [u8]) -> Turn
             words,
             heard: s.heard + 1,
         },
-        reply: shown(room, r.reply),
-        end: lines::end_line(answer, cdi),
+        text: lines::end_line(reply(room, r.reply), answer, cdi),
         over: is_over(answer),
     }
 }
 
 // The line of a reply of n bytes; none if n is 0.
-fn shown(room: [u8; 129], n: usize) -> Line
-    ensures { λ r. ⌜ r ≡ lineOf (replyText room n) ⌝ }
+fn reply(room: [u8; 129], n: usize) -> Text
+    ensures len { λ r. ⌜ r .len ≤ 261 ⌝ }
+    ensures text { λ r. ⌜ r ≡ textOf (replyText room n) ⌝ }
 {
     if n == 0 {
         return lines::empty();

@@ -1,17 +1,18 @@
 -- Each case of the answer has its line.
 use mathlib.Core.Path.{sym}
+use Rattle.printer.proofs.Texts.{adds-none}
 use borrow.Author.Needs.{needs}
 use Rattle.printer.proofs.lines.end_line.Statement.{statement}
 use Rattle.printer.proofs.lines.end_line.Tie as tie
 
 returns : tie.Need-returns
-returns c = rw (c .before .enum-told .given .1) (c .empty .ensures)
+returns c = rw (c .enum-told .given .1) (adds-none _)
 
 returns-2 : tie.Need-returns-2
-returns-2 c = rw (c .before .before .before .answer .given .1, sym (c .before .refusal-number .ensures)) (c .error-line .ensures)
+returns-2 c = rw (c .before .before .before .answer .given .1, sym (c .before .refusal-number .ensures)) (c .numbered .ensures)
 
 returns-3 : tie.Need-returns-3
-returns-3 c = rw (c .before .before .answer2 .given .1) (c .stop-line .ensures)
+returns-3 c = rw (c .before .before .before .answer2 .given .1, sym (c .before .stop-number .ensures)) (c .numbered2 .ensures)
 
 returns-4 : tie.Need-returns-4
 returns-4 c = rw (c .before .before .answer3 .given .1) (c .start-line .ensures)
@@ -21,9 +22,11 @@ end-line-spec =
     tie.close
     (tie.spec
     (λ c. search needs)
+    (λ c. search needs)
     (λ c κs. search needs)
     (λ c. search needs)
     (λ c κs. search needs)
+    (λ c. search needs)
     (λ c κs. search needs)
     (λ c. search needs)
     (λ c κs. search needs)

@@ -12,10 +12,10 @@ use Rattle.printer.proofs.lines.put_all.Statement.{statement}
 use Rattle.printer.proofs.lines.put_all.Tie as tie
 
 abbrev Inv-loop : tie.InvT-loop
-Inv-loop s line₀ i₀ line i = (i ≤ length s) × (line .len ≡ line₀ .len + i) × Adds line₀ (take i s) line
+Inv-loop s text₀ i₀ text i = (i ≤ length s) × (text .len ≡ text₀ .len + i) × Adds text₀ (take i s) text
 
 abbrev μ-loop : tie.MeasureT-loop
-μ-loop s line₀ i₀ line i = length s - i
+μ-loop s text₀ i₀ text i = length s - i
 
 loop-holds : tie.Need-loop-holds Inv-loop μ-loop
 loop-holds c = (search needs, search needs, adds-none _)
@@ -25,7 +25,7 @@ loop-again c =
     let p = c .before .before .before .loop in
     let z = c .before .before .before .before .before in
     let s = z .args .s .now in
-    (omega arith, omega arith, adds-next (λ (x : List ℕ). x) (λ x y. refl) (z .args .l) (p .line) (c .put .result) s (p .i) (search needs) (p .inv .2) (c .put .ensures .1))
+    (omega arith, omega arith, adds-next (λ (x : List ℕ). x) (λ x y. refl) (z .args .t) (p .text) (c .put .result) s (p .i) (search needs) (p .inv .2) (c .put .ensures .1))
 
 returns : tie.Need-returns Inv-loop μ-loop
 returns c =

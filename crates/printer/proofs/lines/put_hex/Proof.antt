@@ -12,10 +12,10 @@ use Rattle.printer.proofs.lines.put_hex.Statement.{statement}
 use Rattle.printer.proofs.lines.put_hex.Tie as tie
 
 abbrev Inv-loop : tie.InvT-loop
-Inv-loop s line₀ i₀ line i = (i ≤ length s) × (line .len ≡ line₀ .len + 2 * i) × Adds line₀ (hexOf (take i s)) line
+Inv-loop s text₀ i₀ text i = (i ≤ length s) × (text .len ≡ text₀ .len + 2 * i) × Adds text₀ (hexOf (take i s)) text
 
 abbrev μ-loop : tie.MeasureT-loop
-μ-loop s line₀ i₀ line i = length s - i
+μ-loop s text₀ i₀ text i = length s - i
 
 loop-holds : tie.Need-loop-holds Inv-loop μ-loop
 loop-holds c = (search needs, search needs, adds-none _)
@@ -25,7 +25,7 @@ loop-again c =
     let p = c .before .before .before .loop in
     let z = c .before .before .before .before .before in
     let s = z .args .s .now in
-    (omega arith, omega arith, adds-next hexOf hex-append (z .args .l) (p .line) (c .put-byte .result) s (p .i) (search needs) (p .inv .2) (c .put-byte .ensures .1))
+    (omega arith, omega arith, adds-next hexOf hex-append (z .args .t) (p .text) (c .put-byte .result) s (p .i) (search needs) (p .inv .2) (c .put-byte .ensures .1))
 
 returns : tie.Need-returns Inv-loop μ-loop
 returns c =

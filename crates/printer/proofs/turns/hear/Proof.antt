@@ -1,22 +1,30 @@
--- What the call settles is what is printed (`turn-as`).
+-- What the call settles is the turn (`turn-as`).
 use mathlib.Core.Path.{ap}
 use Rattle.loader.specs.Answers.{Outcome}
-use Rattle.printer.specs.Sessions.{received}
+use Rattle.printer.specs.Output.{received}
 use Rattle.printer.proofs.Outcomes.{turn-as}
 use borrow.Author.Needs.{needs}
+use borrow.Author.Tests.{eq-eqb, ne-eqb}
 use Rattle.printer.proofs.turns.hear.Statement.{statement}
 use Rattle.printer.proofs.turns.hear.Tie as tie
 
 returns : tie.Need-returns
+returns c = let e = eq-eqb _ 18446744073709551615 (c .before .if1 .taken) in (rw e (c .wait .ensures), rw e)
+
+returns-2 : tie.Need-returns-2
 unfolding received
-returns c =
-    let k = c .before .before .before .before .before .before .before .before .before .before .receive in
-    (turn-as (k .result) _ _ _ _ _ _ _ _ (k .ensures) (c .before .before .shown .ensures) (c .before .end-line .ensures) (c .is-over .ensures), ap (λ (o : Outcome). o .ram) (k .ensures))
+returns-2 c =
+    let k = c .before .before .before .before .before .before .before .before .before .before in
+    let n = ne-eqb _ 18446744073709551615 (k .before .before .before .before .before .before .if1 .left) in
+    let e = c .before .end-line .ensures _ (c .before .before .reply .ensures .1) in
+    (rw n (turn-as (k .receive .result) _ _ _ _ _ _ _ (k .receive .ensures) e (c .is-over .ensures)), rw n (ap (λ (o : Outcome). o .ram) (k .receive .ensures)))
 
 pub hear-spec : {M : Type 1} → statement M
 hear-spec =
     tie.close
     (tie.spec
+    (λ c κs. search needs)
+    returns
     (λ c. search needs)
     (λ c. search needs)
     (λ c κs. search needs)
@@ -25,4 +33,4 @@ hear-spec =
     (λ c κs. search needs)
     (λ c κs. search needs)
     (λ c. search needs)
-    returns)
+    returns-2)

@@ -1,13 +1,20 @@
--- What begin settles is what is printed (`opening-as`).
-use Rattle.printer.proofs.Outcomes.{opening-as}
+-- Under 296 bytes the text is `E 1`, and the turn is over.
+use mathlib.Core.List.{[]}
 use borrow.Author.Needs.{needs}
+use borrow.Author.Tests.{lt-ltb, le-ltb}
+use Rattle.printer.specs.Turns.{opening}
 use Rattle.printer.proofs.turns.open.Statement.{statement}
 use Rattle.printer.proofs.turns.open.Tie as tie
 
 returns : tie.Need-returns
+unfolding opening
 returns c =
-    let b = c .before .before .before .before in
-    opening-as (b .begin .result) _ _ _ _ _ _ (b .begin .ensures) (b .before .words-of .ensures) (c .before .before .empty .ensures) (c .before .end-line .ensures) (c .is-over .ensures)
+    let i = c .before .before .before in
+    rw (lt-ltb _ 296 (i .if1 .taken), c .numbered .ensures [] (c .before .empty .ensures .1), i .before .begin .ensures)
+
+returns-2 : tie.Need-returns-2
+unfolding opening
+returns-2 c = rw (le-ltb _ 296 (c .if1 .left)) (c .before .begin .ensures)
 
 pub open-spec : {M : Type 1} → statement M
 open-spec =
@@ -16,6 +23,5 @@ open-spec =
     (λ c κs. search needs)
     (λ c κs. search needs)
     (λ c κs. search needs)
-    (λ c κs. search needs)
-    (λ c κs. search needs)
-    returns)
+    returns
+    returns-2)

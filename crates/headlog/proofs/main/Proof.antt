@@ -1,0 +1,72 @@
+-- The measure is how many bytes can still be heard: a turn that is not the last hears one of them.
+use Prim.Native.Nat.{ℕ, _+_, _-_, _^_, _<_}
+use native.Mathlib.Omega.{arith}
+use mathlib.Core.Bool.{Bool, true, false, not, cond}
+use mathlib.Core.Path.{_≡_}
+use mathlib.Core.List.{List}
+use lib.Dec.{eqb}
+use lib.ListN.{length}
+use Rattle.printer.specs.Output.{received, isOver}
+use Rattle.printer.specs.Turns.{turned, turnOf, waited}
+use Rattle.printer.specs.declared.turns.Session.{Session}
+use Rattle.printer.specs.declared.turns.Next.{Next}
+use Rattle.printer.specs.declared.turns.Next.the-variants.{Byte, End}
+use Rattle.printer.specs.declared.turns.Turn.{Turn}
+use borrow.Author.Needs.{needs}
+use Rattle.headlog.proofs.main.Statement.{statement}
+use Rattle.headlog.proofs.main.Tie as tie
+
+abbrev left : Turn → ℕ
+left t = cond (t .over) 0 (18446744073709551616 - t .session .heard)
+
+fewer : (s : Session) (n : Next) (ram : List ℕ) → s .heard < 2 ^ 64 → left (turned s n ram) < 18446744073709551616 - s .heard
+fewer s End ram h = omega arith
+fewer s (Byte b) ram h = go (eqb (s .heard) 18446744073709551615)
+  where
+    either : (o : Bool) → cond o 0 (18446744073709551616 - (s .heard + 1)) < 18446744073709551616 - s .heard
+    either true = omega arith
+    either false = omega arith
+
+    go : (t : Bool) → left (cond t (waited s) (turnOf (s .heard + 1) (received (s .state) (s .words) ram b))) < 18446744073709551616 - s .heard
+    go true = omega arith
+    go false = either (isOver (received (s .state) (s .words) ram b .report))
+
+not-over : (k n : ℕ) (o : Bool) → not o ≡ true → k < n → k < cond o 0 n
+not-over k n true e h = absurd (let w : _≡_ {A = ℕ} 0 1 = cc in omega arith)
+not-over k n false e h = h
+
+abbrev Inv-loop : tie.InvT-loop
+Inv-loop ram₀ got t₀ ram t = length ram ≡ length ram₀
+
+abbrev μ-loop : tie.MeasureT-loop
+μ-loop ram₀ got t₀ ram t = left t
+
+loop-less : tie.Need-loop-less Inv-loop μ-loop
+loop-less c =
+    let i = c .before .before .before .before .before .before .before in
+    let p = i .before .before .loop in
+    let t = p .t in
+    let n = c .before .before .before .before .before .read .result in
+    let a = c .before .before .before .advance in
+    let h : t .session .heard < 2 ^ 64 = search needs in
+    let f : left (a .result) < 18446744073709551616 - t .session .heard = rw (a .ensures .0) (fewer (t .session) n (p .ram) h) in
+    not-over (left (a .result)) _ (t .over) (i .if1 .taken) f
+
+pub main-spec : {M : Type 1} → statement M
+main-spec =
+    tie.close
+    (tie.spec
+    Inv-loop
+    μ-loop
+    (λ c. search needs)
+    (λ c κs. search needs)
+    (λ c κs. search needs)
+    (λ c κs. search needs)
+    (λ c. search needs)
+    (λ c κs. search needs)
+    (λ c. search needs)
+    (λ c κs. search needs)
+    (λ c κs. search needs)
+    loop-less
+    (λ c. search needs)
+    (λ c. search needs))

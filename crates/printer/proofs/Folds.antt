@@ -1,0 +1,49 @@
+-- The turns fold to the output.
+use Prim.Native.Nat.{ℕ, _+_, _-_, _^_, _<_, _≤_}
+use native.Mathlib.Omega.{arith}
+use mathlib.Core.Bool.{Bool, true, false, cond}
+use mathlib.Core.Path.{_≡_, refl, ap, _∙_}
+use mathlib.Core.List.{List, [], _∷_, _++_, append-nil}
+use lib.Dec.{eqb, ltb}
+use lib.ListN.{length, take, drop, replicate, length-take, length-drop, drop-of-length-le}
+use lib.Seq.{take-append-seam, take-all}
+use borrow.Author.Tests.{ne-eqb, lt-ltb, le-ltb, ltb-true, ltb-false}
+use Rattle.protocol.specs.Replies.{filled}
+use Rattle.loader.specs.State.{zeros}
+use Rattle.loader.specs.Answers.{Outcome}
+use Rattle.printer.specs.Lines.{waitingLine, errorLine, textOf}
+use Rattle.printer.specs.Output.{begun, received, callText, Output, behind, outputFrom, output}
+use Rattle.printer.specs.Turns.{turnOf, opening, turned, loop, turns}
+
+-- what is written of a text is its lines
+pub lines-of : (x : List ℕ) → take (textOf x .len) (textOf x .bytes) ≡ x
+unfolding textOf
+lines-of x = take-append-seam x _
+
+pub loop-is : (bytes : List ℕ) (o : Outcome) (n : ℕ) → n + length bytes < 2 ^ 64 → loop (turnOf n o) (o .ram) (296 + n) bytes ≡ outputFrom o n bytes
+loop-is [] o n h = rw (lines-of (callText o), lines-of (waitingLine n))
+loop-is (b ∷ bytes) o n h =
+    let e : eqb n 18446744073709551615 ≡ false = ne-eqb n 18446744073709551615 (λ z. omega arith) in
+    let a : 296 + n + 1 ≡ 296 + (n + 1) = omega arith in
+    let l : n + 1 + length bytes < 2 ^ 64 = omega arith in
+    rw (lines-of (callText o), e, a, loop-is bytes (received (o .state) (o .uds) (o .ram) b) (n + 1) l)
+
+short : (input : List ℕ) (m : ℕ) → length input < 296 → turns input m ≡ output input m
+unfolding output opening
+short input m h =
+    let t : take 296 input ≡ input = take-all 296 input (omega arith) in
+    let d : drop 296 input ≡ [] = drop-of-length-le input {i = 296} (omega arith) in
+    rw (t, d, lt-ltb (length input) 296 h, lines-of (errorLine 1), append-nil)
+
+long : (input : List ℕ) (m : ℕ) → 296 ≤ length input → length input < 2 ^ 64 → turns input m ≡ output input m
+unfolding output opening begun
+long input m h l =
+    let n : length (take 296 input) ≡ 296 = rw length-take (omega arith) in
+    rw (n, append-nil, le-ltb (length input) 296 h) (loop-is (drop 296 input) (begun (take 296 input) m) 0 (rw length-drop (omega arith)))
+
+pub folds : (input : List ℕ) (m : ℕ) → length input < 2 ^ 64 → turns input m ≡ output input m
+folds input m l = go (ltb (length input) 296) refl
+  where
+    go : (t : Bool) → ltb (length input) 296 ≡ t → turns input m ≡ output input m
+    go true e = short input m (ltb-true (length input) 296 e)
+    go false e = long input m (ltb-false (length input) 296 e) l

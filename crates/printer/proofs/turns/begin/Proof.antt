@@ -1,0 +1,23 @@
+-- What begin settles is the first turn (`opened-as`).
+use mathlib.Core.List.{[]}
+use Rattle.printer.proofs.Outcomes.{opened-as}
+use borrow.Author.Needs.{needs}
+use Rattle.printer.proofs.turns.begin.Statement.{statement}
+use Rattle.printer.proofs.turns.begin.Tie as tie
+
+returns : tie.Need-returns
+returns c =
+    let b = c .before .before .before .before in
+    let e = c .before .end-line .ensures [] (c .before .before .empty .ensures .1) in
+    opened-as (b .begin .result) _ _ _ _ _ (b .begin .ensures) (b .before .words-of .ensures) e (c .is-over .ensures)
+
+pub begin-spec : {M : Type 1} → statement M
+begin-spec =
+    tie.close
+    (tie.spec
+    (λ c κs. search needs)
+    (λ c κs. search needs)
+    (λ c κs. search needs)
+    (λ c κs. search needs)
+    (λ c κs. search needs)
+    returns)

@@ -1,0 +1,67 @@
+-- The whole output of a whole input: document 01, "Session printer". Standard input has 256 bytes of record, 32 of UDS and 8 of UDI, and
+-- then the bytes that are heard.
+use Prim.Native.Nat.{ℕ, _+_, _*_}
+use mathlib.Core.Bool.{Bool, true, false, cond}
+use mathlib.Core.List.{List, [], _∷_, _++_}
+use lib.Dec.{eqb, ltb}
+use lib.ListN.{length, take, drop}
+use Rattle.blake2s.specs.Rfc7693.{each, word}
+use Rattle.loader.specs.Answers.{Report, refused, continues, stopped, started, Outcome}
+use Rattle.loader.specs.State.{zeros}
+use Rattle.loader.specs.Begin.{Beginning, beginning}
+use Rattle.loader.specs.Machine.{plain, step}
+use Rattle.loader.specs.declared.State.{State}
+use Rattle.printer.specs.Lines.{replyLine, waitingLine, errorLine, endLine}
+
+-- each word of the UDS has four bytes, lowest first
+abbrev pub wordsIn : List ℕ → List ℕ
+wordsIn front = each 8 (λ i. word front (256 + 4 * i))
+
+-- what begin leads to, as a call without a reply, with a UDS and RAM
+abbrev pub begunWith : Beginning → List ℕ → List ℕ → Outcome
+begunWith b ram uds = plain (b .report) 0 (b .state) [] ram uds
+
+-- begin on the first 296 bytes; RAM is m zeros
+unfoldable pub begun : List ℕ → ℕ → Outcome
+begun front m = begunWith (beginning (take 256 front) (drop 288 front) m) (zeros m) (wordsIn front)
+
+-- a byte is received with a reply room of 129 zeros
+unfoldable pub received : State → List ℕ → List ℕ → ℕ → Outcome
+received s uds ram b = step s b (zeros 129) ram uds
+
+-- the line of a reply of n bytes; none for no reply
+abbrev pub replyText : List ℕ → ℕ → List ℕ
+replyText room n = cond (eqb n 0) [] (replyLine (take n room))
+
+-- what is printed of a call: its reply, and the last line if the session is then over
+abbrev pub callText : Outcome → List ℕ
+callText o = replyText (o .room) (o .reply) ++ endLine (o .report) (o .cdi)
+
+-- a session that does not go on is over
+abbrev pub isOver : Report → Bool
+isOver (refused k) = true
+isOver continues = false
+isOver (stopped k) = true
+isOver (started address n) = true
+
+-- what is printed, and how many bytes of the input are read
+pub record Output : Type 0 where
+  pub printed : List ℕ
+  pub read : ℕ
+
+abbrev pub behind : List ℕ → Output → Output
+behind text x = record { printed = text ++ x .printed; read = x .read }
+
+-- from the call o on, with which n bytes were heard: no byte is read after the end, and where the input ends first the last line says how many
+-- were heard
+abbrev pub outputFrom : Outcome → ℕ → List ℕ → Output
+outputFrom o n [] = record { printed = callText o ++ cond (isOver (o .report)) [] (waitingLine n); read = 296 + n }
+outputFrom o n (b ∷ bytes) =
+    cond (isOver (o .report)) (record { printed = callText o; read = 296 + n })
+    (behind (callText o) (outputFrom (received (o .state) (o .uds) (o .ram) b) (n + 1) bytes))
+
+-- the output of a head with m bytes of RAM; an input under 296 bytes prints only `E 1`
+unfoldable pub output : List ℕ → ℕ → Output
+output input m =
+    cond (ltb (length input) 296) (record { printed = errorLine 1; read = length input })
+    (outputFrom (begun (take 296 input) m) 0 (drop 296 input))
