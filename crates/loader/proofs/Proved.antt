@@ -12,10 +12,10 @@ use Rattle.loader.specs.State.{zeros, incomingOk, progressOk, ramOk, inR
 use Rattle.loader.specs.Answers.{refused, continues, stopped, started, refusalNumber, stopNumber, reportOf, Outcome}
 use Rattle.loader.specs.Begin.{Beginning, ending, waitingWith, configOf, byType, beginning}
 use Rattle.loader.specs.Machine.{starting, refusal, refusing, step}
-use Rattle.loader.specs.Theorems.{Loader, number}
+use Rattle.loader.specs.Theorems.{Loader, withUds, number}
 use Rattle.loader.proofs.Ranges.{range-facts}
 use Rattle.loader.proofs.Steps.{admitted}
-use Rattle.loader.proofs.Ways.{by-step}
+use Rattle.loader.proofs.Ways.{called, by-words, step-called, by-step}
 use Rattle.record.specs.Record.{recordAt}
 use Rattle.record.specs.declared.ResetType.{ResetType}
 use Rattle.record.specs.declared.ResetType.the-variants.{Flash0, Flash1, Flash0Ver, Flash1Ver, Client, ClientVer, Unknown}
@@ -285,6 +285,30 @@ module _ (s : State) (b : ℕ) (room ram uds : List ℕ) where
         fail = λ i d ram1 q. apart (cc);
       })
 
+  abbrev Unread : (List ℕ → Outcome) → Type 0
+  Unread f =
+      ((a n : ℕ) → f uds .report ≡ started a n → ⊥) → (f uds .uds ≡ uds) × ((other : List ℕ) → f other ≡ withUds (f uds) other)
+
+  unread : Unread (called (number s b room ram uds) s b room ram)
+  unfolding starting
+  unread =
+      by-words s b room ram (length uds) Unread
+      (record {
+        refused = λ j e n q. (refl, λ o. refl);
+        more = λ i o q. (refl, λ o. refl);
+        halt = λ w n q. (refl, λ o. refl);
+        reply = λ r f q. (refl, λ o. refl);
+        progress = λ r f p ram1 o v q. (refl, λ o. refl);
+        start = λ i d ram1 q. absurd (q 0x40000000 (s .progress .size) refl);
+        fail = λ i d ram1 q. (refl, λ o. refl);
+      })
+
+  secret : ((a n : ℕ) → step s b room ram uds .report ≡ started a n → ⊥)
+      → (step s b room ram uds .uds ≡ uds)
+      × ((other : List ℕ) → length other ≡ length uds → step s b room ram other ≡ withUds (step s b room ram uds) other)
+  unfolding step
+  secret r = let u = unread r in (u .0, λ o e. step-called s b room ram (length uds) o e ∙ u .1 o)
+
 -- ---- begin
 
 -- a begin goes one of three ways
@@ -338,6 +362,7 @@ loader = record {
     lives = lives s b room ram uds;
     stops = stops s b room ram uds;
     starts = starts s b room ram uds;
+    secret = secret s b room ram uds;
   };
   begun = begun;
   no-session = no-session;

@@ -1,6 +1,6 @@
--- The ways that a call can go, as one law: what holds of the outcome of each way holds of the call.
+-- The ways that a call can go, each a function of the words lent as UDS, as one law: what holds of each way holds of the call.
 use Prim.Native.Nat.{ℕ, _+_, _/_, _<_}
-use mathlib.Core.Bool.{true, false}
+use mathlib.Core.Bool.{Bool, true, false, cond}
 use mathlib.Core.Path.{_≡_, refl}
 use mathlib.Core.List.{List, []}
 use native.Mathlib.Omega.{arith}
@@ -73,72 +73,93 @@ next-ok phase.Stopped c n p m e r l = refl
 
 -- ---- the ways
 
-module _ (s : State) (b : ℕ) (room ram uds : List ℕ) (P : Outcome → Type 0) where
+-- a call with the number of its refusal
+abbrev pub called : ℕ → State → ℕ → List ℕ → List ℕ → List ℕ → Outcome
+called k s b room ram uds = cond (eqb k 0) (processed s b room ram uds) (refusing k s room ram uds)
+
+-- a call that lends n words, as a function of these: no test looks at what they are
+module _ (s : State) (b : ℕ) (room ram : List ℕ) (n : ℕ) (P : (List ℕ → Outcome) → Type 0) where
   pub record Ways : Type 0 where
-    pub refused : (k : ℕ) → k ≡ refusal s (length room) (length ram) (length uds) → (k ≡ 0 → ⊥) → P (refusing k s room ram uds)
+    pub refused : (k : ℕ) → k ≡ refusal s (length room) (length ram) n → (k ≡ 0 → ⊥) → P (refusing k s room ram)
     -- a byte of a frame that is not whole, or of one that is passed over
-    pub more : (i : Incoming) → incomingOk i ≡ true → P (plain continues 0 (withIncoming s i) room ram uds)
+    pub more : (i : Incoming) → incomingOk i ≡ true → P (plain continues 0 (withIncoming s i) room ram)
     -- stops 22, 23 and 24
-    pub halt : (k : ℕ) → (k ≡ 25 → ⊥) → P (stopping k s room ram uds)
+    pub halt : (k : ℕ) → (k ≡ 25 → ⊥) → P (stopping k s room ram)
     -- a query, or a load that is not taken
-    pub reply : (r : Reply) → Framed r → P (replying r (between s (s .progress)) room ram uds)
+    pub reply : (r : Reply) → Framed r → P (replying r (between s (s .progress)) room ram)
     -- a load that is taken, or a block that is not the last
     pub progress : (r : Reply) → Framed r → (p : Progress) (ram1 : List ℕ) → progressOk p (s .config .«ram_len») ≡ true
-        → (live (s .progress .phase) ≡ true → live (p .phase) ≡ true) → P (replying r (between s p) room ram1 uds)
+        → (live (s .progress .phase) ≡ true → live (p .phase) ≡ true) → P (replying r (between s p) room ram1)
     -- the last block
-    pub start : (i : Incoming) (d ram1 : List ℕ) → P (starting d (withIncoming s i) (putIn room (sent (digestReply (i .header) d))) ram1 uds)
+    pub start : (i : Incoming) (d ram1 : List ℕ) → P (starting d (withIncoming s i) (putIn room (sent (digestReply (i .header) d))) ram1)
     pub fail : (i : Incoming) (d ram1 : List ℕ)
-        → P (plain (stopped 25) 129 (ended phase.Stopped (s .config .«ram_len»)) (putIn room (sent (digestReply (i .header) d))) ram1 uds)
+        → P (plain (stopped 25) 129 (ended phase.Stopped (s .config .«ram_len»)) (putIn room (sent (digestReply (i .header) d))) ram1)
+
+  -- by cases on a test, whatever the words are
+  by-either : (t : Bool) (x y : List ℕ → Outcome) → (t ≡ true → P x) → (t ≡ false → P y) → P (λ u. cond t (x u) (y u))
+  by-either true x y f g = f refl
+  by-either false x y f g = g refl
 
   module _ (w : Ways) where
-    finish-ways : (i : Incoming) (d ram1 : List ℕ) → P (finishedWith d (withIncoming s i) room ram1 uds)
+    finish-ways : (i : Incoming) (d ram1 : List ℕ) → P (finishedWith d (withIncoming s i) room ram1)
     unfolding finishedWith
-    finish-ways i d ram1 = by-test P (allowed (s .config) d) _ _ (λ a. w .start i d ram1) (λ a. w .fail i d ram1)
+    finish-ways i d ram1 = by-either (allowed (s .config) d) _ _ (λ a. w .start i d ram1) (λ a. w .fail i d ram1)
 
     block-ways : (i : Incoming) → (isLast (s .progress .size) (s .progress .block) ≡ false → progressOk (nextBlock (s .progress)) (s .config .«ram_len») ≡ true)
-        → P (actedBlock (withIncoming s i) room ram uds)
+        → P (actedBlock (withIncoming s i) room ram)
     unfolding actedBlock
     block-ways i next =
-        by-test P (isLast (s .progress .size) (s .progress .block)) _ _
+        by-either (isLast (s .progress .size) (s .progress .block)) _ _
         (λ l. finish-ways i _ _)
         (λ l. w .progress (blockReply (i .header)) (protocol .lengths (i .header) [] [] true .3) (nextBlock (s .progress)) _ (next l) (λ v. v))
 
-    load-ways : (i : Incoming) → P (performed action.Load (withIncoming s i) room ram uds)
+    load-ways : (i : Incoming) → P (performed action.Load (withIncoming s i) room ram)
     unfolding afterLoad loadAnswer
     load-ways i =
         let t = withIncoming s i in
         let f = protocol .lengths (i .header) [] [] (takes t) .2 in
-        by-test (λ (p : Progress). P (replying (loadAnswer t) (between s p) room ram uds)) (takes t) _ _
+        by-test (λ (p : Progress). P (replying (loadAnswer t) (between s p) room ram)) (takes t) _ _
         (λ g. w .progress (loadAnswer t) f (loaded (loadOf t)) ram (loaded-ok t g) (λ v. refl))
         (λ g. w .reply (loadAnswer t) f)
 
-    action-ways : (i : Incoming) (c n : ℕ) (d : Action) → actionIn (s .progress .phase) c n ≡ d → progressOk (s .progress) (s .config .«ram_len») ≡ true
-        → P (performed d (withIncoming s i) room ram uds)
-    action-ways i c n action.Name e r = w .reply (nameReply (i .header)) (protocol .lengths (i .header) [] [] true .0)
-    action-ways i c n action.Udi e r = w .reply (udiReply (i .header) (s .config .udi)) (protocol .lengths (i .header) (s .config .udi) [] true .1)
-    action-ways i c n action.Load e r = load-ways i
-    action-ways i c n action.Block e r = block-ways i (next-ok (s .progress .phase) c n (s .progress) (s .config .«ram_len») e r)
-    action-ways i c n action.WrongCommand e r = w .halt 23 (λ z. omega arith)
-    action-ways i c n action.WrongLength e r = w .halt 24 (λ z. omega arith)
+    action-ways : (i : Incoming) (c l : ℕ) (d : Action) → actionIn (s .progress .phase) c l ≡ d → progressOk (s .progress) (s .config .«ram_len») ≡ true
+        → P (performed d (withIncoming s i) room ram)
+    action-ways i c l action.Name e r = w .reply (nameReply (i .header)) (protocol .lengths (i .header) [] [] true .0)
+    action-ways i c l action.Udi e r = w .reply (udiReply (i .header) (s .config .udi)) (protocol .lengths (i .header) (s .config .udi) [] true .1)
+    action-ways i c l action.Load e r = load-ways i
+    action-ways i c l action.Block e r = block-ways i (next-ok (s .progress .phase) c l (s .progress) (s .config .«ram_len») e r)
+    action-ways i c l action.WrongCommand e r = w .halt 23 (λ z. omega arith)
+    action-ways i c l action.WrongLength e r = w .halt 24 (λ z. omega arith)
 
-    acted-ways : (i : Incoming) → progressOk (s .progress) (s .config .«ram_len») ≡ true → P (acted (withIncoming s i) room ram uds)
+    acted-ways : (i : Incoming) → progressOk (s .progress) (s .config .«ram_len») ≡ true → P (acted (withIncoming s i) room ram)
     unfolding acted
     acted-ways i r = action-ways i (getD (i .body) 0 0) (bodyLen (headerAt (i .header))) _ refl r
 
     byte-ways : (g : Gathered) (k : Step) → g .step ≡ k → GoesOn g → progressOk (s .progress) (s .config .«ram_len») ≡ true
-        → P (afterByte k (withIncoming s (g .incoming)) room ram uds)
+        → P (afterByte k (withIncoming s (g .incoming)) room ram)
     byte-ways g More e o r = w .more (g .incoming) (o e)
     byte-ways g Bad e o r = w .halt 22 (λ z. omega arith)
     byte-ways g Whole e o r = acted-ways (g .incoming) r
 
-    processed-ways : progressOk (s .progress) (s .config .«ram_len») ≡ true → P (processed s b room ram uds)
+    processed-ways : progressOk (s .progress) (s .config .«ram_len») ≡ true → P (processed s b room ram)
     unfolding processed
     processed-ways r = byte-ways (gathered (s .incoming) b) _ refl (gathered-ok (s .incoming) b) r
 
-    pub by-step : P (step s b room ram uds)
-    unfolding step
-    by-step =
-        let k = refusal s (length room) (length ram) (length uds) in
-        by-test P (eqb k 0) _ _
-        (λ z. processed-ways (range-facts s (admitted s (length room) (length ram) (length uds) (eqb-true k 0 z) .range) .progress))
+    pub by-words : P (called (refusal s (length room) (length ram) n) s b room ram)
+    by-words =
+        let k = refusal s (length room) (length ram) n in
+        by-either (eqb k 0) _ _
+        (λ z. processed-ways (range-facts s (admitted s (length room) (length ram) n (eqb-true k 0 z) .range) .progress))
         (λ z. w .refused k refl (eqb-false k 0 z))
+
+-- the call, with words of this number
+pub step-called : (s : State) (b : ℕ) (room ram : List ℕ) (n : ℕ) (uds : List ℕ) → length uds ≡ n
+    → step s b room ram uds ≡ called (refusal s (length room) (length ram) n) s b room ram uds
+unfolding step
+step-called s b room ram n uds e = rw e
+
+-- what holds of each way holds of the call
+pub by-step : (s : State) (b : ℕ) (room ram uds : List ℕ) (P : Outcome → Type 0) → Ways s b room ram (length uds) (λ f. P (f uds))
+    → P (step s b room ram uds)
+unfolding step
+by-step s b room ram uds P w = by-words s b room ram (length uds) (λ f. P (f uds)) w

@@ -30,6 +30,20 @@ gatheredOn (b ∷ bs) Bad i = record { step = Bad; incoming = i }
 abbrev pub gatheredAll : Incoming → List ℕ → Gathered
 gatheredAll i bs = gatheredOn bs More i
 
+-- an outcome with other words for the UDS
+abbrev pub withUds : Outcome → List ℕ → Outcome
+withUds o uds =
+    record {
+      report = o .report;
+      reply = o .reply;
+      state = o .state;
+      cdi = o .cdi;
+      digest = o .digest;
+      room = o .room;
+      ram = o .ram;
+      uds = uds;
+    }
+
 -- a call on any state, in range or not, with any byte and anything lent
 module _ (s : State) (b : ℕ) (room ram uds : List ℕ) where
   -- the number that the call is refused with, 0 for none
@@ -66,6 +80,9 @@ module _ (s : State) (b : ℕ) (room ram uds : List ℕ) where
     pub starts : (address size : ℕ) → after .report ≡ started address size
         → (address ≡ 0x40000000) × (size ≡ s .progress .size) × (after .state ≡ ended phase.Started (s .config .«ram_len»))
         × (after .uds ≡ zeros 8) × (after .reply ≡ 129)
+    -- the UDS is read only at a start: a call that answers none leaves its words, and does the same with any others, if they are as many
+    pub secret : ((address size : ℕ) → after .report ≡ started address size → ⊥)
+        → (after .uds ≡ uds) × ((other : List ℕ) → length other ≡ length uds → step s b room ram other ≡ withUds after other)
 
 pub record Loader : Type 0 where
   -- the reported number and values settle the answer
