@@ -15,7 +15,7 @@ use Rattle.loader.specs.Machine.{starting, refusal, refusing, step}
 use Rattle.loader.specs.Theorems.{Loader, withUds, number}
 use Rattle.loader.proofs.Ranges.{range-facts}
 use Rattle.loader.proofs.Steps.{admitted}
-use Rattle.loader.proofs.Ways.{called, by-words, step-called, by-step}
+use Rattle.loader.proofs.Ways.{Writes, called, by-words, step-called, by-step}
 use Rattle.record.specs.Record.{recordAt}
 use Rattle.record.specs.declared.ResetType.{ResetType}
 use Rattle.record.specs.declared.ResetType.the-variants.{Flash0, Flash1, Flash0Ver, Flash1Ver, Client, ClientVer, Unknown}
@@ -129,9 +129,9 @@ module _ (s : State) (b : ℕ) (room ram uds : List ℕ) where
         more = λ i o r. in-range _ (ram-ok s r) o (range-facts s r .progress);
         halt = λ w n r. stopped-ok m (ram-ok s r);
         reply = λ q f r. in-range _ (ram-ok s r) refl (range-facts s r .progress);
-        progress = λ q f p ram1 o v r. in-range _ (ram-ok s r) refl o;
-        start = λ i d ram1 r. started-ok m (ram-ok s r);
-        fail = λ i d ram1 r. stopped-ok m (ram-ok s r);
+        progress = λ q f p ram1 o v y r. in-range _ (ram-ok s r) refl o;
+        start = λ i d ram1 y r. started-ok m (ram-ok s r);
+        fail = λ i d ram1 y r. stopped-ok m (ram-ok s r);
       })
 
   refused-only : (k : ℕ) → step s b room ram uds .report ≡ refused k → (k ≡ number s b room ram uds) × (k ≡ 0 → ⊥)
@@ -143,9 +143,9 @@ module _ (s : State) (b : ℕ) (room ram uds : List ℕ) where
         more = λ i o q. apart (cc);
         halt = λ w n q. apart (cc);
         reply = λ r f q. apart (cc);
-        progress = λ r f p ram1 o v q. apart (cc);
-        start = λ i d ram1 q. apart (cc);
-        fail = λ i d ram1 q. apart (cc);
+        progress = λ r f p ram1 o v y q. apart (cc);
+        start = λ i d ram1 y q. apart (cc);
+        fail = λ i d ram1 y q. apart (cc);
       })
 
   refused-when : (k : ℕ) → (k ≡ number s b room ram uds) × (k ≡ 0 → ⊥) → step s b room ram uds .report ≡ refused k
@@ -161,9 +161,9 @@ module _ (s : State) (b : ℕ) (room ram uds : List ℕ) where
         more = λ i o q. apart (cc);
         halt = λ w n q. apart (cc);
         reply = λ r f q. apart (cc);
-        progress = λ r f p ram1 o v q. apart (cc);
-        start = λ i d ram1 q. apart (cc);
-        fail = λ i d ram1 q. apart (cc);
+        progress = λ r f p ram1 o v y q. apart (cc);
+        start = λ i d ram1 y q. apart (cc);
+        fail = λ i d ram1 y q. apart (cc);
       })
 
   fits : step s b room ram uds .reply ≤ 129
@@ -175,9 +175,9 @@ module _ (s : State) (b : ℕ) (room ram uds : List ℕ) where
         more = λ i o. omega arith;
         halt = λ k n. omega arith;
         reply = λ r f. let l = f .0 in omega arith;
-        progress = λ r f p ram1 o v. let l = f .0 in omega arith;
-        start = λ i d ram1. omega arith;
-        fail = λ i d ram1. omega arith;
+        progress = λ r f p ram1 o v y. let l = f .0 in omega arith;
+        start = λ i d ram1 y. omega arith;
+        fail = λ i d ram1 y. omega arith;
       })
 
   abbrev Beyond : Outcome → Type 0
@@ -200,9 +200,9 @@ module _ (s : State) (b : ℕ) (room ram uds : List ℕ) where
         more = λ i o. refl;
         halt = λ k n. refl;
         reply = λ r f. after-reply r (r .len + 1) (f .1);
-        progress = λ r f p ram1 o v. after-reply r (r .len + 1) (f .1);
-        start = λ i d ram1. after-digest (i .header) d;
-        fail = λ i d ram1. after-digest (i .header) d;
+        progress = λ r f p ram1 o v y. after-reply r (r .len + 1) (f .1);
+        start = λ i d ram1 y. after-digest (i .header) d;
+        fail = λ i d ram1 y. after-digest (i .header) d;
       })
 
   goes-on : step s b room ram uds .report ≡ continues
@@ -217,9 +217,9 @@ module _ (s : State) (b : ℕ) (room ram uds : List ℕ) where
         more = λ i o q. (refl, refl, refl, refl);
         halt = λ w n q. apart (cc);
         reply = λ r f q. (refl, refl, refl, refl);
-        progress = λ r f p ram1 o v q. (refl, refl, refl, refl);
-        start = λ i d ram1 q. apart (cc);
-        fail = λ i d ram1 q. apart (cc);
+        progress = λ r f p ram1 o v y q. (refl, refl, refl, refl);
+        start = λ i d ram1 y q. apart (cc);
+        fail = λ i d ram1 y q. apart (cc);
       })
 
   -- while the session goes on, the head is live
@@ -239,9 +239,9 @@ module _ (s : State) (b : ℕ) (room ram uds : List ℕ) where
         more = λ i o q. was-live r;
         halt = λ w n q. apart (cc);
         reply = λ x f q. was-live r;
-        progress = λ x f p ram1 o v q. v (was-live r);
-        start = λ i d ram1 q. apart (cc);
-        fail = λ i d ram1 q. apart (cc);
+        progress = λ x f p ram1 o v y q. v (was-live r);
+        start = λ i d ram1 y q. apart (cc);
+        fail = λ i d ram1 y q. apart (cc);
       }) r
 
   abbrev Stops : ℕ → Outcome → Type 0
@@ -260,9 +260,9 @@ module _ (s : State) (b : ℕ) (room ram uds : List ℕ) where
             let z : k ≡ j = cc in
             (refl, refl, refl, refl, rw (ne-eqb k 25 (λ x. n (sym z ∙ x))), λ x. (refl, refl));
         reply = λ r f q. apart (cc);
-        progress = λ r f p ram1 o v q. apart (cc);
-        start = λ i d ram1 q. apart (cc);
-        fail = λ i d ram1 q.
+        progress = λ r f p ram1 o v y q. apart (cc);
+        start = λ i d ram1 y q. apart (cc);
+        fail = λ i d ram1 y q.
             let z : k ≡ 25 = cc in
             (refl, refl, refl, refl, rw (eq-eqb k 25 z), λ x. absurd (x z));
       })
@@ -280,9 +280,23 @@ module _ (s : State) (b : ℕ) (room ram uds : List ℕ) where
         more = λ i o q. apart (cc);
         halt = λ w n q. apart (cc);
         reply = λ r f q. apart (cc);
-        progress = λ r f p ram1 o v q. apart (cc);
-        start = λ i d ram1 q. (cc, cc, refl, refl, refl);
-        fail = λ i d ram1 q. apart (cc);
+        progress = λ r f p ram1 o v y q. apart (cc);
+        start = λ i d ram1 y q. (cc, cc, refl, refl, refl);
+        fail = λ i d ram1 y q. apart (cc);
+      })
+
+  beyond-block : Writes s (step s b room ram uds .ram) ram
+  unfolding starting
+  beyond-block =
+      by-step s b room ram uds (λ (o : Outcome). Writes s (o .ram) ram)
+      (record {
+        refused = λ k e n h. (refl, refl, refl);
+        more = λ i o h. (refl, refl, refl);
+        halt = λ k n h. (refl, refl, refl);
+        reply = λ r f h. (refl, refl, refl);
+        progress = λ r f p ram1 o v y. y;
+        start = λ i d ram1 y. y;
+        fail = λ i d ram1 y. y;
       })
 
   abbrev Unread : (List ℕ → Outcome) → Type 0
@@ -298,9 +312,9 @@ module _ (s : State) (b : ℕ) (room ram uds : List ℕ) where
         more = λ i o q. (refl, λ o. refl);
         halt = λ w n q. (refl, λ o. refl);
         reply = λ r f q. (refl, λ o. refl);
-        progress = λ r f p ram1 o v q. (refl, λ o. refl);
-        start = λ i d ram1 q. absurd (q 0x40000000 (s .progress .size) refl);
-        fail = λ i d ram1 q. (refl, λ o. refl);
+        progress = λ r f p ram1 o v y q. (refl, λ o. refl);
+        start = λ i d ram1 y q. absurd (q 0x40000000 (s .progress .size) refl);
+        fail = λ i d ram1 y q. (refl, λ o. refl);
       })
 
   secret : ((a n : ℕ) → step s b room ram uds .report ≡ started a n → ⊥)
@@ -358,6 +372,7 @@ loader = record {
     kept = kept s b room ram uds;
     fits = fits s b room ram uds;
     beyond = beyond s b room ram uds;
+    beyond-block = beyond-block s b room ram uds;
     goes-on = goes-on s b room ram uds;
     lives = lives s b room ram uds;
     stops = stops s b room ram uds;
