@@ -2,6 +2,7 @@
 use Prim.Native.Nat.{ℕ, _+_, _≤_}
 use mathlib.Core.Bool.{Bool, true, false, not, cond}
 use mathlib.Core.Path.{_≡_, refl, sym, ap, _∙_}
+use mathlib.Core.Option.{Option, none, some}
 use mathlib.Core.List.{List, []}
 use native.Mathlib.Omega.{arith}
 use lib.ListN.{length, drop}
@@ -13,12 +14,10 @@ use Rattle.loader.specs.Answers.{refused, continues, stopped, started, r
 use Rattle.loader.specs.Begin.{Beginning, ending, waitingWith, configOf, byType, beginning}
 use Rattle.loader.specs.Machine.{starting, refusal, refusing, step}
 use Rattle.loader.specs.Theorems.{Loader, withUds, number}
-use Rattle.loader.proofs.Ranges.{range-facts}
+use Rattle.loader.proofs.Ranges.{by-test, range-facts}
 use Rattle.loader.proofs.Steps.{admitted}
 use Rattle.loader.proofs.Ways.{Writes, called, by-words, step-called, by-step}
 use Rattle.record.specs.Record.{recordAt}
-use Rattle.record.specs.declared.ResetType.{ResetType}
-use Rattle.record.specs.declared.ResetType.the-variants.{Flash0, Flash1, Flash0Ver, Flash1Ver, Client, ClientVer, Unknown}
 use Rattle.protocol.proofs.Proved.{protocol}
 use Rattle.protocol.specs.Replies.{sent, digestReply, putIn}
 use Rattle.protocol.specs.declared.Reply.{Reply}
@@ -332,18 +331,13 @@ by-begin : (P : Beginning → Type 0) (bytes udi : List ℕ) (m : ℕ) → ((k :
 unfolding beginning
 by-begin P bytes udi m f g h = go (eqb (length bytes) 256) (ramOk m) refl
   where
-    by-type : (t : ResetType) → ramOk m ≡ true → P (byType t (recordAt bytes) udi m)
-    by-type Flash0 e = g e 21
-    by-type Flash1 e = g e 21
-    by-type Flash0Ver e = g e 21
-    by-type Flash1Ver e = g e 21
-    by-type Client e = h e false
-    by-type ClientVer e = h e true
-    by-type Unknown e = g e 20
+    by-type : (t : Option ℕ) → ramOk m ≡ true → P (byType t (recordAt bytes) udi m)
+    by-type (some n) e = by-test P (eqb n 4) _ _ (λ x. h e false) (λ x. by-test P (eqb n 5) _ _ (λ y. h e true) (λ y. g e 21))
+    by-type none e = g e 20
 
     go : (x y : Bool) → ramOk m ≡ y
-        → P (cond (eqb (cond (not x) 6 (cond (not y) 7 0)) 0) (byType (recordAt bytes .«reset_type») (recordAt bytes) udi m) (ending (refused (cond (not x) 6 (cond (not y) 7 0))) 1))
-    go true true e = by-type (recordAt bytes .«reset_type») e
+        → P (cond (eqb (cond (not x) 6 (cond (not y) 7 0)) 0) (byType (recordAt bytes .type) (recordAt bytes) udi m) (ending (refused (cond (not x) 6 (cond (not y) 7 0))) 1))
+    go true true e = by-type (recordAt bytes .type) e
     go true false e = f 7
     go false y e = f 6
 
