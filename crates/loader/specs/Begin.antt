@@ -1,13 +1,11 @@
 -- Begin: document 01, "Reset record and lent memory", refusals 6 and 7, stops 20 and 21.
 use Prim.Native.Nat.{ℕ}
 use mathlib.Core.Bool.{Bool, true, false, not, cond}
+use mathlib.Core.Option.{Option, none, some}
 use mathlib.Core.List.{List}
 use lib.Dec.{eqb}
 use lib.ListN.{length}
-use Rattle.record.specs.Record.{recordAt}
-use Rattle.record.specs.declared.Record.{Record}
-use Rattle.record.specs.declared.ResetType.{ResetType}
-use Rattle.record.specs.declared.ResetType.the-variants.{Flash0, Flash1, Flash0Ver, Flash1Ver, Client, ClientVer, Unknown}
+use Rattle.record.specs.Record.{Contents, recordAt}
 use Rattle.loader.specs.State.{zeros, ramOk, idle, ended}
 use Rattle.loader.specs.Answers.{Report, refused, continues, stopped, reportOf}
 use Rattle.loader.specs.declared.Phase.the-variants as phase
@@ -33,14 +31,14 @@ abbrev pub waiting : Progress
 waiting = record { phase = phase.Waiting; size = 0; block = 0; «uss_used» = false; uss = zeros 32 }
 
 -- what a session goes by
-abbrev pub configOf : Bool → Record → List ℕ → ℕ → Config
+abbrev pub configOf : Bool → Contents → List ℕ → ℕ → Config
 configOf verify r udi m =
     record {
       «ram_len» = m;
       verify = verify;
       required = r .required;
-      chained = r .«reset_seed»;
-      «measured_id» = r .«measured_id»;
+      chained = r .resetSeed;
+      «measured_id» = r .measuredId;
       udi = udi;
     }
 
@@ -49,14 +47,12 @@ waitingWith c = record { report = continues; state = record { incoming = idle; c
 
 -- type 4 waits for any program, type 5 for one that has the required digest; types 0 to 3 stop with 21, since no flash is fitted, and 6 and
 -- above with 20
-abbrev pub byType : ResetType → Record → List ℕ → ℕ → Beginning
-byType Flash0 r udi m = ending (stopped 21) m
-byType Flash1 r udi m = ending (stopped 21) m
-byType Flash0Ver r udi m = ending (stopped 21) m
-byType Flash1Ver r udi m = ending (stopped 21) m
-byType Client r udi m = waitingWith (configOf false r udi m)
-byType ClientVer r udi m = waitingWith (configOf true r udi m)
-byType Unknown r udi m = ending (stopped 20) m
+abbrev pub byType : Option ℕ → Contents → List ℕ → ℕ → Beginning
+byType (some n) r udi m =
+    cond (eqb n 4) (waitingWith (configOf false r udi m))
+    (cond (eqb n 5) (waitingWith (configOf true r udi m))
+    (ending (stopped 21) m))
+byType none r udi m = ending (stopped 20) m
 
 -- the lowest refusal that applies, 0 for none, by the record's length and the RAM's
 abbrev pub beginRefusal : ℕ → ℕ → ℕ
@@ -66,4 +62,4 @@ beginRefusal n m = cond (not (eqb n 256)) 6 (cond (not (ramOk m)) 7 0)
 unfoldable pub beginning : List ℕ → List ℕ → ℕ → Beginning
 beginning bytes udi m =
     let k = beginRefusal (length bytes) m in
-    cond (eqb k 0) (byType (recordAt bytes .«reset_type») (recordAt bytes) udi m) (ending (refused k) 1)
+    cond (eqb k 0) (byType (recordAt bytes .type) (recordAt bytes) udi m) (ending (refused k) 1)

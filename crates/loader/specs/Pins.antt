@@ -3,14 +3,13 @@
 use Prim.Native.Nat.{ℕ}
 use mathlib.Core.Path.{_≡_}
 use mathlib.Core.Bool.{true, false}
+use mathlib.Core.Option.{Option, none, some}
 use mathlib.Core.List.{List, [], _∷_, _++_}
 use lib.ListN.{length, replicate}
 use Rattle.protocol.specs.Commands.{loadIn, goodLoad, usesUss}
 use Rattle.protocol.specs.Replies.{filled, sent, nameReply, udiReply, loadReply, blockReply, digestReply}
 use Rattle.protocol.specs.declared.Load.{Load}
 use Rattle.record.specs.Record.{recordAt}
-use Rattle.record.specs.declared.ResetType.{ResetType}
-use Rattle.record.specs.declared.ResetType.the-variants.{Flash0, Flash1, Flash0Ver, Flash1Ver, Client, ClientVer, Unknown}
 use Rattle.loader.specs.State.{zeros, idle, ended}
 use Rattle.loader.specs.Theorems.{Call}
 use Rattle.loader.specs.declared.Phase.{Phase}
@@ -21,8 +20,8 @@ abbrev pub flagged : ℕ → Load
 flagged flag = loadIn (filled 129 (0x13 ∷ 0x03 ∷ 1 ∷ 0 ∷ 0 ∷ 0 ∷ flag ∷ []))
 
 -- the type of a record whose first four bytes are these
-abbrev pub typeOf : ℕ → ℕ → ℕ → ℕ → ResetType
-typeOf a b c d = recordAt (filled 256 (a ∷ b ∷ c ∷ d ∷ [])) .«reset_type»
+abbrev pub typeOf : ℕ → ℕ → ℕ → ℕ → Option ℕ
+typeOf a b c d = recordAt (filled 256 (a ∷ b ∷ c ∷ d ∷ [])) .type
 
 -- a record with these bytes for its mask
 abbrev pub masked : ℕ → ℕ → ℕ → ℕ → List ℕ
@@ -33,11 +32,11 @@ pub record Pins : Type 0 where
   pub flags : (goodLoad 1 (flagged 0) ≡ true) × (usesUss (flagged 0) ≡ false) × (goodLoad 1 (flagged 1) ≡ true) × (usesUss (flagged 1) ≡ true)
       × (goodLoad 1 (flagged 2) ≡ false) × (goodLoad 1 (flagged 255) ≡ false)
   -- types 0 to 6, and 0x01000004 and 0x00000104, of which the first byte is 4
-  pub types : (typeOf 0 0 0 0 ≡ Flash0) × (typeOf 1 0 0 0 ≡ Flash1) × (typeOf 2 0 0 0 ≡ Flash0Ver) × (typeOf 3 0 0 0 ≡ Flash1Ver)
-      × (typeOf 4 0 0 0 ≡ Client) × (typeOf 5 0 0 0 ≡ ClientVer) × (typeOf 6 0 0 0 ≡ Unknown) × (typeOf 4 0 0 1 ≡ Unknown) × (typeOf 4 1 0 0 ≡ Unknown)
+  pub types : (typeOf 0 0 0 0 ≡ some 0) × (typeOf 1 0 0 0 ≡ some 1) × (typeOf 2 0 0 0 ≡ some 2) × (typeOf 3 0 0 0 ≡ some 3)
+      × (typeOf 4 0 0 0 ≡ some 4) × (typeOf 5 0 0 0 ≡ some 5) × (typeOf 6 0 0 0 ≡ none) × (typeOf 4 0 0 1 ≡ none) × (typeOf 4 1 0 0 ≡ none)
   -- masks 1, 0xFFFFFFFE and 0x00000100: bit 0 is RESET_SEED, and the other 31 are ignored
-  pub masks : (recordAt (masked 1 0 0 0) .«reset_seed» ≡ true) × (recordAt (masked 254 255 255 255) .«reset_seed» ≡ false)
-      × (recordAt (masked 0 1 0 0) .«reset_seed» ≡ false)
+  pub masks : (recordAt (masked 1 0 0 0) .resetSeed ≡ true) × (recordAt (masked 254 255 255 255) .resetSeed ≡ false)
+      × (recordAt (masked 0 1 0 0) .resetSeed ≡ false)
   -- each reply as bytes: the command's frame ID, endpoint 2, bit 2 zero
   pub name : sent (nameReply 0x10)
       ≡ 0x12 ∷ 0x02 ∷ 0x74 ∷ 0x6b ∷ 0x31 ∷ 0x20 ∷ 0x6d ∷ 0x6b ∷ 0x64 ∷ 0x66 ∷ 0x01 ∷ 0 ∷ 0 ∷ 0 ∷ 0 ∷ 0 ∷ 0

@@ -5,9 +5,10 @@ use mathlib.Core.Logic.{_↔_}
 use mathlib.Core.Bool.{true, cond}
 use mathlib.Core.List.{List, [], _∷_}
 use lib.Dec.{eqb}
-use lib.ListN.{length, drop}
+use lib.ListN.{length, take, drop}
 use lib.Seq.{paste}
 use Rattle.framing.specs.Header.{good, headerAt}
+use Rattle.protocol.specs.Commands.{placeOf, countIn}
 use Rattle.loader.specs.State.{zeros, inRange, live, idle, ended}
 use Rattle.loader.specs.Answers.{refused, continues, stopped, started, reportOf, Outcome}
 use Rattle.loader.specs.Begin.{beginning}
@@ -30,6 +31,27 @@ gatheredOn (b ∷ bs) Bad i = record { step = Bad; incoming = i }
 abbrev pub gatheredAll : Incoming → List ℕ → Gathered
 gatheredAll i bs = gatheredOn bs More i
 
+-- x is y but for the bytes of the block that the state waits for; while it waits for a load these are none, and x is y
+abbrev pub SameButBlock : State → List ℕ → List ℕ → Type 0
+SameButBlock s x y =
+    let place = placeOf (s .progress .block) in
+    let end = place + countIn (s .progress .size) (s .progress .block) in
+    (length x ≡ length y) × (take place x ≡ take place y) × (drop end x ≡ drop end y)
+
+-- an outcome with other words for the UDS
+abbrev pub withUds : Outcome → List ℕ → Outcome
+withUds o uds =
+    record {
+      report = o .report;
+      reply = o .reply;
+      state = o .state;
+      cdi = o .cdi;
+      digest = o .digest;
+      room = o .room;
+      ram = o .ram;
+      uds = uds;
+    }
+
 -- a call on any state, in range or not, with any byte and anything lent
 module _ (s : State) (b : ℕ) (room ram uds : List ℕ) where
   -- the number that the call is refused with, 0 for none
@@ -50,6 +72,8 @@ module _ (s : State) (b : ℕ) (room ram uds : List ℕ) where
     -- a reply has at most 129 bytes, and beyond it the room is as it was
     pub fits : after .reply ≤ 129
     pub beyond : drop (after .reply) (after .room) ≡ drop (after .reply) room
+    -- only the block's bytes of RAM are written; that the gathered body has 128 bytes is its type in the code
+    pub beyond-block : length (s .incoming .body) ≡ 128 → SameButBlock s (after .ram) ram
     -- while the session goes on, what begin fixed and the UDS stay, and neither CDI nor digest is given
     pub goes-on : after .report ≡ continues
         → (after .state .config ≡ s .config) × (after .uds ≡ uds)
@@ -66,6 +90,9 @@ module _ (s : State) (b : ℕ) (room ram uds : List ℕ) where
     pub starts : (address size : ℕ) → after .report ≡ started address size
         → (address ≡ 0x40000000) × (size ≡ s .progress .size) × (after .state ≡ ended phase.Started (s .config .«ram_len»))
         × (after .uds ≡ zeros 8) × (after .reply ≡ 129)
+    -- the UDS is read only at a start: a call that answers none leaves its words, and does the same with any others, if they are as many
+    pub secret : ((address size : ℕ) → after .report ≡ started address size → ⊥)
+        → (after .uds ≡ uds) × ((other : List ℕ) → length other ≡ length uds → step s b room ram other ≡ withUds after other)
 
 pub record Loader : Type 0 where
   -- the reported number and values settle the answer

@@ -1,7 +1,8 @@
 // What begin makes of a reset record.
 ghost use mathlib.Core.Path.{_≡_};
 ghost use lib.ListN.{length};
-ghost use Rattle.loader.specs.Begin.{beginningOf, ending, waiting, configOf, waitingWith, byType};
+ghost use Rattle.record.specs.Record.{typeNumber, recordOf};
+ghost use Rattle.loader.specs.Begin.{beginningOf, ending, configOf, waitingWith, byType};
 ghost use Rattle.loader.specs.Answers.{reportOf};
 use super::Answer;
 use super::Begun;
@@ -33,7 +34,7 @@ pub fn end(answer: Answer, ram_len: usize) -> Begun
 
 // What a session goes by.
 fn config(verify: bool, r: Record, udi: [u8; 8], ram_len: usize) -> Config
-    ensures { λ c. ⌜ c ≡ configOf verify r udi «ram_len» ⌝ }
+    ensures { λ c. ⌜ c ≡ configOf verify (recordOf r) udi «ram_len» ⌝ }
 {
     let required = r.required;
     let measured_id = r.measured_id;
@@ -70,7 +71,7 @@ fn wait(config: Config) -> Begun
 
 // What the record's type leads to.
 pub fn by_type(r: Record, udi: [u8; 8], ram_len: usize) -> Begun
-    ensures { λ b. ⌜ beginningOf b ≡ byType (r .«reset_type») r udi «ram_len» ⌝ }
+    ensures { λ b. ⌜ beginningOf b ≡ byType (typeNumber (r .«reset_type»)) (recordOf r) udi «ram_len» ⌝ }
 {
     let reset_type = r.reset_type;
     match reset_type {

@@ -1,15 +1,12 @@
--- A field of four bytes as a number, and the numbers of no type.
+-- A field of four bytes as a number.
 use mathlib.Core.Path.{_≡_, _∙_}
 use mathlib.Core.List.{List, [], _∷_}
-use Prim.Native.Nat.{ℕ, _+_, _<_, _≤_}
+use Prim.Native.Nat.{ℕ, _+_, _<_}
 use native.Mathlib.Nat.{add-zero}
 use native.Mathlib.Omega.{arith}
 use lib.ListN.{getD, take, drop}
 use lib.Seq.{getD-take, getD-drop}
-use borrow.Author.Tests.{ne-eqb}
 use Rattle.blake2s.specs.Rfc7693.{word}
-use Rattle.record.specs.Record.{resetType}
-use Rattle.record.specs.declared.ResetType.the-variants.{Unknown}
 
 pub word-at : (l : List ℕ) (f : ℕ)
     → word (take 4 (drop f l)) 0 ≡ word (getD l f 0 ∷ getD l (f + 1) 0 ∷ getD l (f + 2) 0 ∷ getD l (f + 3) 0 ∷ []) 0
@@ -17,14 +14,3 @@ unfolding word
 word-at l f =
     let g : (i : ℕ) → i < 4 → getD (take 4 (drop f l)) i 0 ≡ getD l (f + i) 0 = λ i h. getD-take 4 (drop f l) i 0 h ∙ getD-drop f l i 0 in
     rw (g 0 (omega arith), g 1 (omega arith), g 2 (omega arith), g 3 (omega arith), add-zero)
-
-pub unknown-type : (n : ℕ) → 6 ≤ n → resetType n ≡ Unknown
-unknown-type n h =
-    simp (
-      ne-eqb n 0 (λ e. omega arith),
-      ne-eqb n 1 (λ e. omega arith),
-      ne-eqb n 2 (λ e. omega arith),
-      ne-eqb n 3 (λ e. omega arith),
-      ne-eqb n 4 (λ e. omega arith),
-      ne-eqb n 5 (λ e. omega arith),
-    )

@@ -1,13 +1,39 @@
--- The theorem of specs/Theorems.antt: a field after a list of the right length is the part there.
+-- The theorem of specs/Theorems.antt: a number leads back to its type, and a field after a list of the right length is the part there.
 use Prim.Native.Nat.{ℕ, _+_, _≤_}
-use mathlib.Core.Path.{_≡_, sym, ap, _∙_}
+use mathlib.Core.Path.{_≡_, refl, sym, ap, _∙_}
+use mathlib.Core.Bool.{cond}
+use mathlib.Core.Option.{Option, none, some}
 use mathlib.Core.List.{List, _++_, append-assoc}
 use native.Mathlib.Omega.{arith}
+use lib.Dec.{eqb}
 use lib.ListN.{length, take, drop, length-append, length-drop}
 use lib.Seq.{take-at, drop-at, take-append-le, drop-append-le}
-use Rattle.record.specs.Record.{Field, typeField, maskField, requiredField, measuredIdField, fieldOf, recordAt}
+use Rattle.record.specs.Record.{Field, typeField, maskField, requiredField, measuredIdField, fieldOf, typeNumber, recordAt}
 use Rattle.record.specs.Theorems.{Records}
-use Rattle.record.proofs.Fields.{unknown-type}
+use Rattle.record.specs.declared.ResetType.{ResetType}
+use Rattle.record.specs.declared.ResetType.the-variants.{Flash0, Flash1, Flash0Ver, Flash1Ver, Client, ClientVer, Unknown}
+
+-- the type of a number
+abbrev typeWith : Option ℕ → ResetType
+typeWith (some n) =
+    cond (eqb n 0) Flash0
+    (cond (eqb n 1) Flash1
+    (cond (eqb n 2) Flash0Ver
+    (cond (eqb n 3) Flash1Ver
+    (cond (eqb n 4) Client ClientVer))))
+typeWith none = Unknown
+
+type-back : (x : ResetType) → typeWith (typeNumber x) ≡ x
+type-back Flash0 = refl
+type-back Flash1 = refl
+type-back Flash0Ver = refl
+type-back Flash1Ver = refl
+type-back Client = refl
+type-back ClientVer = refl
+type-back Unknown = refl
+
+same-type : (x y : ResetType) → typeNumber x ≡ typeNumber y → x ≡ y
+same-type x y e = sym (type-back x) ∙ ap typeWith e ∙ type-back y
 
 -- the part of n bytes after p
 after : (p s rest : List ℕ) (a n : ℕ) → length p ≡ a → length s ≡ n → take n (drop a (p ++ s ++ rest)) ≡ s
@@ -33,7 +59,7 @@ read-from p x e =
 pub records : Records
 unfolding recordAt
 records = record {
-  unknown = unknown-type;
+  types = same-type;
   fields = λ a d m rest ha hd hm. (
     rw (append-assoc (a ++ d) m rest) (after a d (m ++ rest) 8 32 ha hd),
     after (a ++ d) m rest 40 32 (rw (length-append, ha, hd)) hm,

@@ -1,8 +1,9 @@
 -- The reset record: document 01, "Reset record and lent memory". One table says where each field stands.
 use Prim.Native.Nat.{ℕ, _%_}
 use mathlib.Core.Bool.{Bool, cond}
+use mathlib.Core.Option.{Option, none, some}
 use mathlib.Core.List.{List}
-use lib.Dec.{eqb}
+use lib.Dec.{eqb, ltb}
 use lib.ListN.{take, drop}
 use Rattle.blake2s.specs.Rfc7693.{word}
 use Rattle.record.specs.declared.ResetType.{ResetType}
@@ -38,25 +39,45 @@ fieldOf f bytes = take (f .size) (drop (f .from) bytes)
 abbrev pub numberIn : Field → List ℕ → ℕ
 numberIn f bytes = word (fieldOf f bytes) 0
 
--- the type that a number stands for
-abbrev pub resetType : ℕ → ResetType
-resetType n =
-    cond (eqb n 0) Flash0
-    (cond (eqb n 1) Flash1
-    (cond (eqb n 2) Flash0Ver
-    (cond (eqb n 3) Flash1Ver
-    (cond (eqb n 4) Client
-    (cond (eqb n 5) ClientVer Unknown)))))
+-- the number of each type; `Unknown` stands for every other number
+abbrev pub typeNumber : ResetType → Option ℕ
+typeNumber Flash0 = some 0
+typeNumber Flash1 = some 1
+typeNumber Flash0Ver = some 2
+typeNumber Flash1Ver = some 3
+typeNumber Client = some 4
+typeNumber ClientVer = some 5
+typeNumber Unknown = none
+
+-- what the loader reads of a record: the number of its type, or none, mask bit 0 and the two digests
+pub record Contents : Type 0 where
+  pub type : Option ℕ
+  pub resetSeed : Bool
+  pub required : List ℕ
+  pub measuredId : List ℕ
+
+abbrev pub recordOf : Record → Contents
+recordOf r =
+    record {
+      type = typeNumber (r .«reset_type»);
+      resetSeed = r .«reset_seed»;
+      required = r .required;
+      measuredId = r .«measured_id»;
+    }
+
+-- a number as a type: 6 and above are none
+abbrev pub knownType : ℕ → Option ℕ
+knownType n = cond (ltb n 6) (some n) none
 
 -- bit 0 of a mask; the other 31 are ignored
 abbrev pub resetSeed : ℕ → Bool
 resetSeed mask = eqb (mask % 2) 1
 
-unfoldable pub recordAt : List ℕ → Record
+unfoldable pub recordAt : List ℕ → Contents
 recordAt bytes =
     record {
-      «reset_type» = resetType (numberIn typeField bytes);
-      «reset_seed» = resetSeed (numberIn maskField bytes);
+      type = knownType (numberIn typeField bytes);
+      resetSeed = resetSeed (numberIn maskField bytes);
       required = fieldOf requiredField bytes;
-      «measured_id» = fieldOf measuredIdField bytes;
+      measuredId = fieldOf measuredIdField bytes;
     }

@@ -3,7 +3,7 @@
 ghost use mathlib.Core.Path.{_≡_};
 ghost use Prim.Native.Nat.{_+_, _≤_};
 ghost use lib.ListN.{length, take, drop};
-ghost use Rattle.record.specs.Record.{resetType, recordAt};
+ghost use Rattle.record.specs.Record.{typeNumber, knownType, recordOf, recordAt};
 
 // Which program a reset asks for.
 pub enum ResetType {
@@ -29,7 +29,7 @@ pub struct Record {
 
 // The type that a number stands for.
 fn type_of(n: u32) -> ResetType
-    ensures { λ r. ⌜ r ≡ resetType n ⌝ }
+    ensures { λ r. ⌜ typeNumber r ≡ knownType n ⌝ }
 {
     match n {
         0 => ResetType::Flash0,
@@ -54,7 +54,7 @@ fn part(bytes: &[u8], from: usize) -> [u8; 32]
 
 // Reads a record.
 pub fn read(bytes: [u8; 256]) -> Record
-    ensures { λ r. ⌜ r ≡ recordAt bytes ⌝ }
+    ensures { λ r. ⌜ recordOf r ≡ recordAt bytes ⌝ }
 {
     let reset_type = type_of(endian::number(bytes[0], bytes[1], bytes[2], bytes[3]));
     let mask = endian::number(bytes[4], bytes[5], bytes[6], bytes[7]);

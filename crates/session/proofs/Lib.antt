@@ -1,3 +1,4 @@
+pub mod Ranges
 pub mod Frames
 pub mod Gathering
 pub mod Shapes

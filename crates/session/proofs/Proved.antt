@@ -2,11 +2,10 @@
 use Prim.Native.Nat.{ℕ, _+_, _≤_}
 use mathlib.Core.Path.{_≡_, refl, sym, ap, _∙_, subst}
 use mathlib.Core.Logic.{_⊎_, inl, inr, _↔_}
-use mathlib.Core.Bool.{Bool, true, false, not, cond, _||_}
+use mathlib.Core.Bool.{Bool, true, false, cond, _||_}
 use mathlib.Core.Option.{none, some}
 use mathlib.Core.List.{List, [], _∷_, _++_, append-nil, tail-eq-of-cons-eq, head-eq-of-cons-eq, List·Memᴰ, List·Memᴰ·head, List·Memᴰ·tail, List·Memᴰ·not-nil, List·Memᴰ·cases-cons}
 use native.Mathlib.Omega.{arith}
-use lib.Dec.{eqb, ltb}
 use lib.ListN.{length, getD, replicate, length-append}
 use Rattle.blake2s.specs.Rfc7693.{blake2s, bytes}
 use Rattle.cdi.specs.Cdi.{cdiString}
@@ -183,19 +182,6 @@ injective S S′ t t′ e =
       secret = same-secret (used (t .reading)) (used (t′ .reading)) _ _ (i .3) (i .4);
     }
 
--- ---- refusal 1
-
-never-one : (S : Session) (e : Entry) → Among e (allOf S) → e .out .report ≡ refused 1 → ⊥
-never-one S e i q =
-    go (hasEnded (i .before)) (ltb (length (e .call .room)) 129) (eqb (length (e .call .ram)) (S .ramLen)) (eqb (length (e .call .uds)) 8) (table S e i 1 .0 q .0)
-  where
-    go : (a b c d : Bool) → _≡_ {A = ℕ} 1 (cond a 2 (cond b 3 (cond (not c) 4 (cond (not d) 5 0)))) → ⊥
-    go true b c d z = omega arith
-    go false true c d z = omega arith
-    go false false false d z = omega arith
-    go false false true false z = omega arith
-    go false false true true z = omega arith
-
 -- ---- existence
 
 module _ (rec udi ram uds prog : List ℕ) (id : ℕ) (secret : Secret) (makes : Made prog id secret)
@@ -274,6 +260,5 @@ verified-boot =
           (o .0, o .1, o .2, λ uds. one-string (S .rec) uds (w .load) (w′ .load) (w .blocks) (w′ .blocks) (o .1) (o .2));
       injective = injective;
       table = table;
-      never-one = never-one;
       exists = exists;
     }

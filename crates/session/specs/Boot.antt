@@ -110,10 +110,9 @@ pub record VerifiedBoot : Type 0 where
       × ((uds : List ℕ) → stringOf w uds ≡ stringOf w′ uds)
   -- two starts of one head or of two, the strings of which are equal
   pub injective : (S S′ : Session) (t : Start S) (t′ : Start S′) → stringAt t ≡ stringAt t′ → Same t t′
-  -- every call of the list answers a number of refusal exactly when the table says so; refusal 1 is never answered
+  -- every call of the list answers a number of refusal exactly when the table says so
   pub table : (S : Session) (e : Entry) (i : Among e (allOf S)) (k : ℕ)
       → (e .out .report ≡ refused k) ↔ ((k ≡ refusalIn (hasEnded (i .before)) (S .ramLen) (e .call)) × (k ≡ 0 → ⊥))
-  pub never-one : (S : Session) (e : Entry) → Among e (allOf S) → e .out .report ≡ refused 1 → ⊥
   -- every program of 1 byte to the RAM's length starts, if the record allows it, with any user secret or none, whatever RAM and UDS hold
   pub exists : (rec udi ram uds prog : List ℕ) (flag : Bool) (uss : List ℕ)
       → isAccepted (beginning rec udi (length ram) .report) ≡ true → (numberIn typeField rec ≡ 4) ⊎ (numberIn typeField rec ≡ 5)

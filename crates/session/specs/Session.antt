@@ -97,7 +97,7 @@ hasEnded [] = false
 hasEnded (e ∷ es) = isEnd (e .out .report) || hasEnded es
 
 -- the table of refused calls in the words of a session, 0 for a call that is not refused. Number 1 is not in it: no state reached from a begin is
--- out of range
+-- out of range (specs/Ranges.antt)
 abbrev pub refusalIn : Bool → ℕ → Call → ℕ
 refusalIn ended m c =
     cond ended 2

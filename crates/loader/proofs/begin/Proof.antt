@@ -1,7 +1,9 @@
 -- Each test is one refusal of the definition; past them the record's type decides.
+use mathlib.Core.Path.{ap, _∙_}
 use lib.ListN.{length}
 use borrow.Author.Tests.{eq-eqb, ne-eqb, not-true, not-false}
-use Rattle.loader.specs.Begin.{beginning}
+use Rattle.record.specs.Record.{Contents}
+use Rattle.loader.specs.Begin.{byType, beginning}
 use borrow.Author.Needs.{needs}
 use Rattle.loader.proofs.begin.Statement.{statement}
 use Rattle.loader.proofs.begin.Tie as tie
@@ -27,7 +29,8 @@ returns-3 c =
     let r = t .before .ram-ok in
     let e = t .before .before in
     let a = e .before .before .args in
-    rw (c .by-type .ensures, c .before .read .ensures, c .before .before .record-bytes .ensures, eq-eqb (length (a .«record» .now)) 256 (e .if1 .left), ← (r .ensures), not-false (r .result) (t .if2 .left))
+    c .by-type .ensures ∙ ap (λ (x : Contents). byType (x .type) x (a .udi) (a .ram-len)) (c .before .read .ensures)
+    ∙ rw (c .before .before .record-bytes .ensures, eq-eqb (length (a .«record» .now)) 256 (e .if1 .left), ← (r .ensures), not-false (r .result) (t .if2 .left))
 
 pub begin-spec : {M : Type 1} → statement M
 begin-spec =

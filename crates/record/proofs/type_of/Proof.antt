@@ -1,7 +1,6 @@
 -- Each arm of the match is a test of the definition: the number that it names, or none of 0 to 5.
-use mathlib.Core.Path.{sym}
 use native.Mathlib.Omega.{arith}
-use Rattle.record.proofs.Fields.{unknown-type}
+use borrow.Author.Tests.{le-ltb}
 use Rattle.record.proofs.type_of.Statement.{statement}
 use Rattle.record.proofs.type_of.Tie as tie
 
@@ -15,4 +14,4 @@ type-of-spec =
     (λ c. simp (c .match .keys4))
     (λ c. simp (c .match .keys5))
     (λ c. simp (c .match .keys6))
-    (λ c. sym (unknown-type (c .before .args .n) (omega arith))))
+    (λ c. rw (le-ltb (c .before .args .n) 6 (omega arith))))

@@ -2,7 +2,7 @@
 use Rattle.loader.proofs.Bytes.{put-front}
 use lib.ListN.{length, take, length-set, length-take}
 use native.Mathlib.Omega.{arith}
-use mathlib.Core.Path.{_≡_, sym, _∙_}
+use mathlib.Core.Path.{_≡_, _∙_}
 use borrow.Author.Needs.{needs}
 use Rattle.loader.proofs.memory.put.Statement.{statement}
 use Rattle.loader.proofs.memory.put.Tie as tie
@@ -10,20 +10,14 @@ use Rattle.loader.proofs.memory.put.Tie as tie
 body-length : (z : tie.Start) → length (z .args .r .body) ≡ 128
 body-length z = search (needs, z .good .1 .0)
 
-prefix-length : (z : tie.Start) → length (take (z .args .r .len) (z .args .r .body)) ≡ z .args .r .len
-prefix-length z = let l = body-length z in rw length-take (omega arith)
-
 array-share-prefix-body : tie.Need-array-share-prefix-body
 array-share-prefix-body c = let l = body-length (c .before .before .before) in omega arith
 
 slice-aggregate-copy-to : tie.Need-slice-aggregate-copy-to
-slice-aggregate-copy-to c = let l = prefix-length (c .before .before .before .before) in sym l
+slice-aggregate-copy-to c = let l = body-length (c .before .before .before .before) in rw length-take (omega arith)
 
 copy-to-requires : tie.Need-copy-to-requires
-copy-to-requires c κs =
-    let z = c .before .before .before .before in
-    let l = prefix-length z in
-    rw (length-set, l) (omega arith)
+copy-to-requires c κs = let l = body-length (c .before .before .before .before) in rw (length-set, length-take) (omega arith)
 
 same-length : tie.Need-same-length
 same-length c = c .before .before .copy-to .kept .0 ∙ simp length-set

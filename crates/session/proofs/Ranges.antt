@@ -1,0 +1,52 @@
+-- Refusal 1 (specs/Ranges.antt): each call of a list gets a state in range and hands one back.
+use Prim.Native.Nat.{ℕ}
+use mathlib.Core.Path.{_≡_, sym, subst}
+use mathlib.Core.Bool.{Bool, true, false, not, cond}
+use mathlib.Core.List.{List, [], _∷_, _++_, head-eq-of-cons-eq, tail-eq-of-cons-eq}
+use native.Mathlib.Omega.{arith}
+use lib.Dec.{eqb, ltb}
+use lib.ListN.{length}
+use Rattle.loader.specs.State.{inRange, live}
+use Rattle.loader.specs.Answers.{refused}
+use Rattle.loader.specs.Begin.{beginning}
+use Rattle.loader.specs.Machine.{refusal}
+use Rattle.loader.proofs.Proved.{loader}
+use Rattle.loader.specs.declared.State.{State}
+use Rattle.session.specs.Session.{Call, Entry, entryOf, log}
+use Rattle.session.specs.Ranges.{Ranges}
+
+-- only a state out of range has refusal 1
+not-one : (s : State) (room ram uds : ℕ) → inRange s ≡ true → refusal s room ram uds ≡ 1 → ⊥
+unfolding refusal
+not-one s room ram uds r e = go (live (s .progress .phase)) (ltb room 129) (eqb ram (s .config .«ram_len»)) (eqb uds 8) (rw r at e)
+  where
+    go : (a b c d : Bool) → _≡_ {A = ℕ} (cond (not a) 2 (cond b 3 (cond (not c) 4 (cond (not d) 5 0)))) 1 → ⊥
+    go false b c d z = omega arith
+    go true true c d z = omega arith
+    go true false false d z = omega arith
+    go true false true false z = omega arith
+    go true false true true z = omega arith
+
+abbrev Stays : Entry → Type 0
+Stays e = (inRange (e .out .state) ≡ true) × (e .out .report ≡ refused 1 → ⊥)
+
+call-stays : (s : State) (c : Call) → inRange s ≡ true → Stays (entryOf s c)
+call-stays s c r =
+    let l = loader .call s (c .byte) (c .room) (c .ram) (c .uds) in
+    (l .stays r, λ q. not-one s (length (c .room)) (length (c .ram)) (length (c .uds)) r (sym (l .refuses 1 .0 q .0)))
+
+-- a call, wherever it stands in the list
+stays-at : (cs : List Call) (s : State) → inRange s ≡ true → (before after : List Entry) (e : Entry) → log s cs ≡ before ++ e ∷ after → Stays e
+stays-at [] s r [] after e q = absurd (let w : _≡_ {A = ℕ} 0 1 = cc in omega arith)
+stays-at [] s r (x ∷ before) after e q = absurd (let w : _≡_ {A = ℕ} 0 1 = cc in omega arith)
+stays-at (c ∷ cs) s r [] after e q = subst Stays (head-eq-of-cons-eq q) (call-stays s c r)
+stays-at (c ∷ cs) s r (x ∷ before) after e q = stays-at cs (entryOf s c .out .state) (call-stays s c r .0) before after e (tail-eq-of-cons-eq q)
+
+pub ranges : (rec udi : List ℕ) (m : ℕ) (calls : List Call) → Ranges rec udi m calls
+ranges rec udi m calls =
+    let b = loader .begun rec udi m in
+    record {
+      begun = b;
+      reached = λ e i. stays-at calls (beginning rec udi m .state) b (i .before) (i .after) e (i .place) .0;
+      never-one = λ e i. stays-at calls (beginning rec udi m .state) b (i .before) (i .after) e (i .place) .1;
+    }

@@ -1,0 +1,23 @@
+-- Refusal 1 of document 01: no state reached from a begin, accepted or not, is out of the range of docs/STATES.md. The proof is `ranges` in
+-- proofs/Ranges.antt.
+use Prim.Native.Nat.{ℕ}
+use mathlib.Core.Path.{_≡_}
+use mathlib.Core.Bool.{true}
+use mathlib.Core.List.{List}
+use Rattle.loader.specs.State.{inRange}
+use Rattle.loader.specs.Answers.{refused}
+use Rattle.loader.specs.Begin.{beginning}
+use Rattle.loader.specs.declared.State.{State}
+use Rattle.session.specs.Session.{Call, Entry, Among, log}
+
+-- any begin and any calls after it
+module _ (rec udi : List ℕ) (m : ℕ) (calls : List Call) where
+  abbrev pub first : State
+  first = beginning rec udi m .state
+
+  pub record Ranges : Type 0 where
+    -- the state that begin hands back is in range, and so is that after each call
+    pub begun : inRange first ≡ true
+    pub reached : (e : Entry) → Among e (log first calls) → inRange (e .out .state) ≡ true
+    -- no call answers refusal 1
+    pub never-one : (e : Entry) → Among e (log first calls) → e .out .report ≡ refused 1 → ⊥
