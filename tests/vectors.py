@@ -1,5 +1,5 @@
 #!/usr/bin/env python3
-"""The expected standard output of the program `vectors`: hashes by hashlib, headers by their bits.
+"""The expected standard output of the program `vectors`: hashes by hashlib, headers by their bits, CDIs by document 01's rule.
 
     vectors.py                 prints it
     vectors.py --check FILE    exits non-zero, and says what differs, unless FILE holds it
@@ -42,8 +42,8 @@ def refusal(size=32, begun=None, key=0, total=0, in_range=True):
     return min(numbers[1:], default=0)
 
 
-def counting(n):
-    return bytes(i % 256 for i in range(n))
+def counting(n, first=0):
+    return bytes(i % 256 for i in range(first, first + n))
 
 
 def blake2s(key, msg, size=32):
@@ -143,5 +143,17 @@ def limits():
     yield line
 
 
+def identifiers():
+    """UDS, domain, measurement, then USS if used; bit 0 of the domain says that it is used, bit 1 that the mask has RESET_SEED."""
+    uds, measured_id, digest, uss = (counting(32, first) for first in [0x00, 0x20, 0x40, 0x60])
+    for name, domain, measurement, end in [
+        ("direct", 0b00, digest, b""),
+        ("direct-uss", 0b01, digest, uss),
+        ("chained", 0b10, measured_id, b""),
+        ("chained-uss", 0b11, measured_id, uss),
+    ]:
+        yield f"cdi {name} {blake2s(b'', uds + bytes([domain]) + measurement + end).hex()}"
+
+
 if __name__ == "__main__":
-    sys.exit(stored.main(__doc__, chain(headers(), known(), limits())))
+    sys.exit(stored.main(__doc__, chain(headers(), known(), limits(), identifiers())))

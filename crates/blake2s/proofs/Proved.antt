@@ -5,13 +5,13 @@ use mathlib.Core.List.{List, [], _∷_, _++_}
 use Prim.Native.Nat.{ℕ, suc, _+_, _-_, _*_, _/_, _^_, _<_, _≤_}
 use native.Mathlib.Omega.{arith}
 use lib.Dec.{eqb}
-use lib.ListN.{length, getD, drop, length-append, length-drop}
+use lib.ListN.{length, getD, take, drop, length-append, length-drop}
 use lib.Seq.{getD-at, take-all}
 use borrow.Author.Tests.{ne-eqb}
-use Rattle.blake2s.specs.Rfc7693.{rotr, word, words, bytes, iv, sigma, added, xorRotated, G, workVector, round, rounds, F, padded, input, blockAt, blockCount, Compression, leading, compressions, compressed, initial, blake2s}
+use Rattle.blake2s.specs.Rfc7693.{each, rotr, word, words, bytes, iv, sigma, added, xorRotated, G, workVector, round, rounds, F, padded, input, blockAt, blockCount, Compression, leading, compressions, compressed, initial, blake2s}
 use Rattle.blake2s.specs.Hash.{numberOf, hashNumber, hashOutput}
 use Rattle.blake2s.specs.Stream.{earlier, begun, extended, inRange, beginNumber, beginContext, updateNumber, updateContext, finishNumber, finishOutput, refusedContext}
-use Rattle.blake2s.specs.Theorems.{Examples, Hashing, Streamed, Streaming, run, numbers, joined}
+use Rattle.blake2s.specs.Theorems.{message, Examples, printed, Trace, Hashing, Streamed, Streaming, run, numbers, joined}
 use Rattle.blake2s.specs.declared.Context.{Context}
 use Rattle.blake2s.specs.declared.Answer.{Answer}
 use Rattle.blake2s.specs.declared.Answer.the-variants.{Accepted, ContextRange, OutputLength, KeyLength, MessageLength}
@@ -26,6 +26,24 @@ use Rattle.blake2s.proofs.Sessions.{begun-nil, at-range, runs}
 pub examples : Examples
 unfolding rotr word words bytes iv sigma added xorRotated G workVector round rounds F padded input blockAt blockCount leading compressions compressed initial blake2s
 examples = record { abc = refl; keyed = refl }
+
+-- the vectors of the rounds, each made from the one before, so that no round is computed twice
+unfoldable vectors : List ℕ → List (List ℕ) → List ℕ → List (List ℕ)
+vectors m [] v = v ∷ []
+vectors m (s ∷ ss) v = v ∷ vectors m ss (round m s v)
+
+after-rounds : (m : List ℕ) (ss : List (List ℕ)) (v : List ℕ) → each (suc (length ss)) (λ i. rounds m (take i ss) v) ≡ vectors m ss v
+unfolding rounds vectors
+after-rounds m [] v = refl
+after-rounds m (s ∷ ss) v = ap (λ (l : List (List ℕ)). v ∷ l) (after-rounds m ss (round m s v))
+
+as-printed : vectors (words (padded message)) sigma (workVector (initial 0 32) 3 true) ≡ printed
+unfolding rotr word words iv sigma added xorRotated G workVector round padded initial vectors printed
+as-printed = refl
+
+pub trace : Trace
+unfolding rotr word words iv sigma added xorRotated G workVector round rounds F padded input blockAt blockCount leading compressions initial
+trace = record { call = refl; m = refl; v = after-rounds _ sigma _ ∙ as-printed; h = refl }
 
 module _ (key msg : List ℕ) (fits : length key ≤ 32) where
   leading-count : (n : ℕ) → length (leading n 0 (input key msg)) ≡ n

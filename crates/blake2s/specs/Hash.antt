@@ -24,7 +24,7 @@ kept number made old = cond (eqb number 0) made old
 abbrev pub badSize : ℕ → Bool
 badSize nn = eqb nn 0 || ltb 32 nn
 
--- a message has at most 4,294,967,295 bytes
+-- a message has at most 4,294,967,295 bytes, where RFC 7693, 2.1, allows all below 2**64
 abbrev pub tooLong : ℕ → Bool
 tooLong ll = ltb 4294967295 ll
 

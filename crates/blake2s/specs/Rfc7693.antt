@@ -1,4 +1,5 @@
--- BLAKE2s after RFC 7693, in the RFC's order. An array is a list, a word a number below 2^32 and a byte one below 2^8.
+-- BLAKE2s after RFC 7693, in the RFC's order and with its letters. An array is a list, a word a number below 2**32, a byte one below 2**8.
+-- Comments have the RFC's signs: its 2**n is `2 ^ n` here, its a ^ b is `bitXor a b`, its a mod b is `a % b` and its v[i] is `getD v i 0`.
 use Prim.Native.Nat.{ℕ, zero, suc, _+_, _-_, _*_, _/_, _%_, _^_}
 use mathlib.Core.Path.{_≡_}
 use mathlib.Core.Bool.{Bool, true, false, cond}
@@ -12,7 +13,8 @@ abbrev pub each : {A : Type 0} → ℕ → (ℕ → A) → List A
 each zero f = []
 each (suc n) f = f 0 ∷ each n (λ i. f (suc i))
 
--- 2.1: BLAKE2s has words of w bits, blocks of bb bytes and the rotations R1 to R4
+-- 2.1: BLAKE2s has words of w bits, blocks of bb bytes and the rotations R1 to R4. It has r = 10 rounds, one for each row of
+-- SIGMA. The ranges of nn, kk and ll, the bytes of hash, key and message, are in Hash.antt
 abbrev pub w : ℕ
 w = 32
 
@@ -31,7 +33,7 @@ R3 = 8
 abbrev pub R4 : ℕ
 R4 = 7
 
--- 2.3: ceil(n / bb)
+-- 2.3: ceil(n / bb); every other quotient is rounded down
 abbrev pub ceil : ℕ → ℕ
 ceil n = (n + (bb - 1)) / bb
 
@@ -47,25 +49,25 @@ shl x n = x * 2 ^ n % 2 ^ w
 unfoldable pub rotr : ℕ → ℕ → ℕ
 rotr x n = bitXor (shr x n) (shl x (w - n))
 
--- 2.4: the word that four bytes from place i on give, lowest first
+-- 2.4: the word that the bytes x[i..i+3] give, the least significant first
 unfoldable pub word : List ℕ → ℕ → ℕ
-word b i = getD b i 0 + getD b (i + 1) 0 * 2 ^ 8 + getD b (i + 2) 0 * 2 ^ 16 + getD b (i + 3) 0 * 2 ^ 24
+word x i = getD x i 0 + getD x (i + 1) 0 * 2 ^ 8 + getD x (i + 2) 0 * 2 ^ 16 + getD x (i + 3) 0 * 2 ^ 24
 
--- 2.4: the sixteen words of a block
+-- 2.4: the sixteen words m[0..15] of a block of bytes
 unfoldable pub words : List ℕ → List ℕ
-words b = each 16 (λ i. word b (4 * i))
+words x = each 16 (λ i. word x (4 * i))
 
--- 2.4: the bytes of the eight words of a state, lowest first
+-- 2.4: the 32 bytes of the words h[0..7], the least significant of each first
 unfoldable pub bytes : List ℕ → List ℕ
 bytes h = each 32 (λ i. getD h (i / 4) 0 / 2 ^ (8 * (i % 4)) % 2 ^ 8)
 
--- 2.6: the initialization vector
+-- 2.6: the initialization vector IV, by the values of appendix D
 unfoldable pub iv : List ℕ
 iv =
     0x6a09e667 ∷ 0xbb67ae85 ∷ 0x3c6ef372 ∷ 0xa54ff53a ∷
     0x510e527f ∷ 0x9b05688c ∷ 0x1f83d9ab ∷ 0x5be0cd19 ∷ []
 
--- 2.7: the message word permutations
+-- 2.7: the message word permutations SIGMA[0..9]
 unfoldable pub sigma : List (List ℕ)
 sigma =
     (0 ∷ 1 ∷ 2 ∷ 3 ∷ 4 ∷ 5 ∷ 6 ∷ 7 ∷ 8 ∷ 9 ∷ 10 ∷ 11 ∷ 12 ∷ 13 ∷ 14 ∷ 15 ∷ []) ∷
@@ -79,15 +81,15 @@ sigma =
     (6 ∷ 15 ∷ 14 ∷ 9 ∷ 11 ∷ 3 ∷ 0 ∷ 8 ∷ 12 ∷ 2 ∷ 13 ∷ 7 ∷ 1 ∷ 4 ∷ 10 ∷ 5 ∷ []) ∷
     (10 ∷ 2 ∷ 8 ∷ 4 ∷ 7 ∷ 6 ∷ 1 ∷ 5 ∷ 15 ∷ 11 ∷ 9 ∷ 14 ∷ 3 ∷ 12 ∷ 13 ∷ 0 ∷ []) ∷ []
 
--- 3.1: v[a] := (v[a] + v[b] + x) mod 2**w
+-- 3.1: v[a] := (v[a] + v[b] + x) mod 2**w; for v[c] := (v[c] + v[d]) mod 2**w x is 0
 unfoldable pub added : List ℕ → ℕ → ℕ → ℕ → List ℕ
 added v a b x = set v a ((getD v a 0 + getD v b 0 + x) % 2 ^ w)
 
--- 3.1: v[d] := (v[d] ^ v[a]) >>> r
+-- 3.1: v[d] := (v[d] ^ v[a]) >>> n
 unfoldable pub xorRotated : List ℕ → ℕ → ℕ → ℕ → List ℕ
-xorRotated v d a r = set v d (rotr (bitXor (getD v d 0) (getD v a 0)) r)
+xorRotated v d a n = set v d (rotr (bitXor (getD v d 0) (getD v a 0)) n)
 
--- 3.1: the mixing function G
+-- 3.1: the mixing function G; v1 to v7 are v after each line but the last
 unfoldable pub G : List ℕ → ℕ → ℕ → ℕ → ℕ → ℕ → ℕ → List ℕ
 G v a b c d x y =
     let v1 = added v a b x in
@@ -99,7 +101,7 @@ G v a b c d x y =
     let v7 = added v6 c d 0 in
     xorRotated v7 b c R4
 
--- 3.2: the local work vector of the state h, the offset counter t and the flag f of the last block
+-- 3.2: the local work vector v[0..15] of F, from the state h, the offset counter t and the flag f of the final block
 unfoldable pub workVector : List ℕ → ℕ → Bool → List ℕ
 workVector h t f =
     let v0 = h ++ iv in
@@ -111,7 +113,7 @@ workVector h t f =
 abbrev pub selected : List ℕ → List ℕ → ℕ → ℕ
 selected m s j = getD m (getD s j 0) 0
 
--- 3.2: a round, with the message words m in the order s: the four columns, then the four diagonals
+-- 3.2: a round, one turn of F's loop, with the message words m in the order s: the four columns, then the four diagonals
 unfoldable pub round : List ℕ → List ℕ → List ℕ → List ℕ
 round m s v =
     let v1 = G v 0 4 8 12 (selected m s 0) (selected m s 1) in
@@ -146,7 +148,7 @@ mixing m s v i =
 abbrev pub TableRound : Type 0
 TableRound = (m s v : List ℕ) → foldl (mixing m s) v (each (length positions) (λ i. i)) ≡ round m s v
 
--- 3.2: the rounds, one for each order in turn: BLAKE2s has r = 10 of them, so that SIGMA[i mod 10] is SIGMA[i]
+-- 3.2: the rounds, one for each order s in turn. With r = 10 SIGMA[i mod 10] is SIGMA[i], so F goes through SIGMA once
 unfoldable pub rounds : List ℕ → List (List ℕ) → List ℕ → List ℕ
 rounds m ss v = foldl (λ u s. round m s u) v ss
 
@@ -156,49 +158,52 @@ F h m t f =
     let v = rounds m sigma (workVector h t f) in
     each 8 (λ i. bitXor (bitXor (getD h i 0) (getD v i 0)) (getD v (i + 8) 0))
 
--- 3.3: x filled up with zeros to a block
+-- 3.3: x padded with zeros to bb bytes
 unfoldable pub padded : List ℕ → List ℕ
 padded x = x ++ replicate (bb - length x) 0
 
--- 3.3: the input: a key, padded, is a block of its own in front of the message
+-- 3.3: the bytes of d[0..dd-1] on end, but for the padding of the final block: a key, padded, is d[0], and the message follows
 unfoldable pub input : List ℕ → List ℕ → List ℕ
 input [] msg = msg
 input (k ∷ ks) msg = padded (k ∷ ks) ++ msg
 
--- 3.3: block d[i] of the input d; the final one is padded
+-- 3.3: the block d[i], where d is given as those bytes; the final one is padded, and where there are none d[0] is all zeros
 unfoldable pub blockAt : List ℕ → ℕ → List ℕ
 blockAt d i = padded (take bb (drop (bb * i) d))
 
--- 3.3: the number dd of blocks, for a key of kk and a message of ll bytes
+-- 3.3: the number dd of blocks, for a key of kk and a message of ll bytes: 1 where kk = 0 and ll = 0
 unfoldable pub blockCount : ℕ → ℕ → ℕ
 blockCount kk ll = cond (eqb (kk + ll) 0) 1 (ceil kk + ceil ll)
 
--- 3.3: a call of F: its block, its counter and whether it is the last
+-- 3.3: a call of F: its block d[i], its offset counter t and its flag f
 pub record Compression : Type 0 where
   pub block : List ℕ
   pub counter : ℕ
   pub last : Bool
 
--- 3.3: the calls for d[0] to d[n - 1], none of them final, where t bytes came before d
+-- 3.3: the calls for d[0] to d[n - 1], none of them final, with t = (i + 1) * bb; bytes before d, which only Stream.antt has, count too
 unfoldable pub leading : ℕ → ℕ → List ℕ → List Compression
-leading n t d = each n (λ i. record { block = blockAt d i; counter = t + (i + 1) * bb; last = false })
+leading n before d = each n (λ i. record { block = blockAt d i; counter = before + (i + 1) * bb; last = false })
 
--- 3.3: all calls of F for a key and a message
+-- 3.3: all calls of F for a key and a message: those for d[0] to d[dd - 2], and the final one with t = ll or, if there is a key, ll + bb
 unfoldable pub compressions : List ℕ → List ℕ → List Compression
 compressions key msg =
+    let kk = length key in
+    let ll = length msg in
     let d = input key msg in
-    let dd = blockCount (length key) (length msg) in
-    let t = cond (eqb (length key) 0) (length msg) (length msg + bb) in
+    let dd = blockCount kk ll in
+    let t = cond (eqb kk 0) ll (ll + bb) in
     leading (dd - 1) 0 d ++ record { block = blockAt d (dd - 1); counter = t; last = true } ∷ []
 
--- 3.3: the state after some calls of F
+-- 3.3: the state h after some calls of F
 unfoldable pub compressed : List ℕ → List Compression → List ℕ
 compressed h cs = foldl (λ g c. F g (words (c .block)) (c .counter) (c .last)) h cs
 
--- 3.3: the first state, with the parameter block of 2.5, for a key of kk bytes and a hash of nn
+-- 3.3: the first state: IV, and in h[0] the parameter block's p[0] = 0x0101kknn of 2.5, whose other words are 0
 unfoldable pub initial : ℕ → ℕ → List ℕ
 initial kk nn = set iv 0 (bitXor (bitXor (bitXor (getD iv 0 0) 0x01010000) (shl kk 8)) nn)
 
--- 3.3: BLAKE2s with a key of up to 32 bytes, empty for none, and a hash of nn bytes, 1 to 32
+-- 3.3: BLAKE2s with a key of up to 32 bytes, empty for none, and a hash of nn bytes, 1 to 32. The RFC's function takes d, ll and kk, which
+-- are made from key and message here
 unfoldable pub blake2s : List ℕ → List ℕ → ℕ → List ℕ
 blake2s key msg nn = take nn (bytes (compressed (initial (length key) nn) (compressions key msg)))

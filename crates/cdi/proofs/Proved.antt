@@ -1,4 +1,5 @@
--- The theorem of specs/Theorems.antt: parts of known lengths are cut off one after the other, and the domain tells both flags.
+-- The theorem of specs/Theorems.antt: parts of known lengths are cut off one after the other, and the domain tells both flags. The literal
+-- strings are computed.
 use Prim.Native.Nat.{ℕ, _+_, _/_, _%_}
 use mathlib.Core.Path.{_≡_, refl, sym, ap, _∙_}
 use mathlib.Core.Bool.{Bool, true, false, cond}
@@ -7,7 +8,7 @@ use lib.Dec.{eqb}
 use lib.ListN.{length, take, drop, getD, length-append}
 use lib.Seq.{take-at, drop-at, getD-at}
 use Rattle.cdi.specs.Cdi.{domainOf, measurementOf, cdiString}
-use Rattle.cdi.specs.Theorems.{Inputs, stringOf, Cdi}
+use Rattle.cdi.specs.Theorems.{Inputs, stringOf, someUds, someMeasuredId, someDigest, someUss, Strings, Cdi}
 use Rattle.cdi.proofs.Parts.{head-length}
 
 -- lists that are equal have equal parts, before and after a place
@@ -49,8 +50,8 @@ module _ (x : Inputs) where
   measurement-length = go (x .chained)
     where
       go : (b : Bool) → length (measurementOf b (x .measuredId) (x .digest)) ≡ 32
-      go true = x .measuredId-length
-      go false = x .digest-length
+      go true = search
+      go false = search
 
   start-length : length start ≡ 65
   start-length = head-length (x .uds) dom measurement (x .uds-length) measurement-length
@@ -66,6 +67,10 @@ module _ (x : Inputs) where
       go : (b : Bool) → 65 + length (cond b (x .uss) []) ≡ cond b 97 65
       go true = rw (x .uss-length)
       go false = refl
+
+literal : Strings
+unfolding cdiString someUds someMeasuredId someDigest someUss
+literal = record { direct = refl; direct-used = refl; chained = refl; chained-used = refl }
 
 pub cdi : Cdi
 unfolding cdiString
@@ -84,4 +89,5 @@ cdi = record {
         sym (used-of (x .used) (x .chained)) ∙ ap (λ (n : ℕ). eqb (n % 2) 1) d ∙ used-of (y .used) (y .chained),
         back (start x) (start y) (secret x) (secret y) 65 (start-length x) (start-length y) e,
       );
+  strings = literal;
 }

@@ -1,4 +1,5 @@
-// The Compound Device Identifier (CDI) of a start: a hash that binds the device secret to the program.
+// The Compound Device Identifier (CDI) of a start: a hash that binds the device secret to the program, or to the record's measured_id where
+// it is chained, and to the user secret where one is used.
 // Document 01, "Commands and replies", in the terms of specs/Cdi.antt.
 ghost use mathlib.Core.Path.{_≡_};
 ghost use mathlib.Core.List.{[], _++_, _∷_};

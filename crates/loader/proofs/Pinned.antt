@@ -9,6 +9,7 @@ use Rattle.blake2s.specs.Rfc7693.{word}
 use Rattle.protocol.specs.Commands.{loadIn}
 use Rattle.protocol.specs.Replies.{replyHeader, sent, nameReply, udiReply, loadReply, blockReply, digestReply}
 use Rattle.record.specs.Record.{recordAt}
+use Rattle.cdi.proofs.Proved.{cdi}
 use Rattle.loader.specs.State.{ended}
 use Rattle.loader.specs.Pins.{Pins}
 use Rattle.loader.proofs.Proved.{loader}
@@ -37,6 +38,7 @@ pins = record {
   not-taken = refl;
   block = refl;
   digest = digest-bytes;
+  strings = cdi .strings;
   calls = loader .call;
   ends = λ p m. (refl, refl, refl, refl, refl, refl, refl);
 }

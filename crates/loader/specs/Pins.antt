@@ -10,6 +10,7 @@ use Rattle.protocol.specs.Commands.{loadIn, goodLoad, usesUss}
 use Rattle.protocol.specs.Replies.{filled, sent, nameReply, udiReply, loadReply, blockReply, digestReply}
 use Rattle.protocol.specs.declared.Load.{Load}
 use Rattle.record.specs.Record.{recordAt}
+use Rattle.cdi.specs.Theorems.{Strings}
 use Rattle.loader.specs.State.{zeros, idle, ended}
 use Rattle.loader.specs.Theorems.{Call}
 use Rattle.loader.specs.declared.Phase.{Phase}
@@ -46,6 +47,8 @@ pub record Pins : Type 0 where
   pub not-taken : sent (loadReply 0x53 false) ≡ 0x51 ∷ 0x04 ∷ 1 ∷ 0 ∷ 0 ∷ []
   pub block : sent (blockReply 0x73) ≡ 0x71 ∷ 0x06 ∷ 0 ∷ 0 ∷ 0 ∷ []
   pub digest : (d : List ℕ) → length d ≡ 32 → sent (digestReply 0x73 d) ≡ 0x73 ∷ 0x07 ∷ 0 ∷ d ++ replicate 94 0
+  -- the string of the CDI as bytes, direct and chained, without and with a user secret
+  pub strings : Strings
   -- state and words after each stop and each start are `stops` and `starts` of a call
   pub calls : (s : State) (b : ℕ) (room ram uds : List ℕ) → Call s b room ram uds
   -- and nothing of a session is left in that state

@@ -1,4 +1,5 @@
 // The inputs.
+ghost use Prim.Native.Nat.{_≤_};
 
 // 0, 1, 2, .., as in the known answers that BLAKE2 is published with.
 pub fn counting() -> [u8; 256] {
@@ -6,6 +7,19 @@ pub fn counting() -> [u8; 256] {
     let mut i: usize = 0;
     while i < 256 {
         s[i] = i as u8;
+        i = i + 1;
+    }
+    s
+}
+
+// 32 bytes that count up from the first.
+pub fn counting_from(first: u8) -> [u8; 32]
+    requires { ⌜ first ≤ 224 ⌝ }
+{
+    let mut s = [0u8; 32];
+    let mut i: u8 = 0;
+    while i < 32 {
+        s[i as usize] = first + i;
         i = i + 1;
     }
     s

@@ -1,6 +1,7 @@
-// Writes what framing and blake2s answer on set inputs. tests/vectors.py makes the same text with code of its own.
+// Writes what framing, blake2s and cdi answer on set inputs. tests/vectors.py makes the same text with code of its own.
 mod data;
 mod headers;
+mod identifiers;
 mod known;
 mod print;
 mod refusals;
@@ -19,4 +20,5 @@ fn main() {
     refusals::begin_sizes();
     refusals::finish_length();
     refusals::message_length();
+    identifiers::all();
 }
