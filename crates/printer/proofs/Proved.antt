@@ -9,13 +9,13 @@ use Rattle.framing.specs.Header.{headerAt, headerByte}
 use Rattle.record.specs.Record.{recordAt}
 use Rattle.cdi.specs.Cdi.{cdiString, cdiOf}
 use Rattle.protocol.specs.Commands.{loadIn}
-use Rattle.protocol.specs.Replies.{replyHeader, putIn, nameReply, loadReply, digestReply}
+use Rattle.protocol.specs.Replies.{replyHeader, putIn, nameReply, udiReply, loadReply, digestReply}
 use Rattle.loader.specs.State.{inRange, ended}
 use Rattle.loader.specs.Begin.{beginning}
 use Rattle.loader.specs.Machine.{gathered, loadAnswer, afterLoad, starting, finishedWith, actedBlock, acted, refusal, processed, step}
 use Rattle.printer.specs.Lines.{hexOf, decimalOf}
 use Rattle.printer.specs.Output.{begun, received, output}
-use Rattle.printer.specs.Theorems.{Printer, gives}
+use Rattle.printer.specs.Theorems.{Printer}
 use Rattle.printer.proofs.Folds.{folds}
 
 two-digits : (s : List ℕ) → length (hexOf s) ≡ 2 * length s
@@ -23,7 +23,7 @@ two-digits [] = refl
 two-digits (b ∷ s) = let e = two-digits s in omega arith
 
 pub printer : Printer
-unfolding output decimalOf begun received beginning step refusal processed gathered acted inRange ended putIn recordAt word headerAt nameReply replyHeader headerByte loadIn loadAnswer loadReply afterLoad actedBlock finishedWith starting digestReply cdiString cdiOf rotr words bytes iv sigma added xorRotated G workVector round rounds F padded input blockAt blockCount leading compressions compressed initial blake2s
+unfolding output decimalOf begun received beginning step refusal processed gathered acted inRange ended putIn recordAt word headerAt nameReply udiReply replyHeader headerByte loadIn loadAnswer loadReply afterLoad actedBlock finishedWith starting digestReply cdiString cdiOf rotr words bytes iv sigma added xorRotated G workVector round rounds F padded input blockAt blockCount leading compressions compressed initial blake2s
 printer = record {
   folds = folds;
   example = refl;
@@ -33,8 +33,6 @@ printer = record {
   short = refl;
   two = two-digits;
   hex = refl;
-  zero = refl;
-  twenty = refl;
-  ram = refl;
-  longest = refl;
+  decimal = (refl, refl, refl);
+  letters = refl;
 }

@@ -1,11 +1,18 @@
 -- The lines of a session, in ASCII: document 01, "Session printer".
 use Prim.Native.Nat.{ℕ, zero, suc, _+_, _-_, _/_, _%_}
+use Prim.Native.Char.{code}
+use Prim.Native.String.{String, [] as []ˢ, _∷_ as _∷ˢ_}
 use mathlib.Core.Bool.{cond}
 use mathlib.Core.List.{List, [], _∷_, _++_}
 use lib.Dec.{ltb}
 use lib.ListN.{length, replicate}
 use Rattle.loader.specs.Answers.{Report, refused, continues, stopped, started}
 use Rattle.printer.specs.declared.lines.Text.{Text}
+
+-- the bytes of a text in ASCII
+abbrev pub ascii : String → List ℕ
+ascii []ˢ = []
+ascii (c ∷ˢ s) = code c ∷ ascii s
 
 -- a digit below 16: 48 is `0` and 97 is `a`
 abbrev pub hexDigit : ℕ → ℕ
@@ -27,23 +34,23 @@ decimalOf n = decimalIn 20 n
 
 -- `R `, the reply's bytes
 abbrev pub replyLine : List ℕ → List ℕ
-replyLine reply = 82 ∷ 32 ∷ hexOf reply ++ 10 ∷ []
+replyLine reply = ascii "R " ++ hexOf reply ++ ascii "\n"
 
 -- `W `, how many bytes were heard
 abbrev pub waitingLine : ℕ → List ℕ
-waitingLine n = 87 ∷ 32 ∷ decimalOf n ++ 10 ∷ []
+waitingLine n = ascii "W " ++ decimalOf n ++ ascii "\n"
 
 -- `S `, the program's size, the CDI
 abbrev pub startLine : ℕ → List ℕ → List ℕ
-startLine n cdi = 83 ∷ 32 ∷ decimalOf n ++ 32 ∷ hexOf cdi ++ 10 ∷ []
+startLine n cdi = ascii "S " ++ decimalOf n ++ ascii " " ++ hexOf cdi ++ ascii "\n"
 
 -- `F `, the number of the stop
 abbrev pub stopLine : ℕ → List ℕ
-stopLine k = 70 ∷ 32 ∷ decimalOf k ++ 10 ∷ []
+stopLine k = ascii "F " ++ decimalOf k ++ ascii "\n"
 
 -- `E ` and a number
 abbrev pub errorLine : ℕ → List ℕ
-errorLine k = 69 ∷ 32 ∷ decimalOf k ++ 10 ∷ []
+errorLine k = ascii "E " ++ decimalOf k ++ ascii "\n"
 
 -- the last line, by what a call reports: none while the session goes on. Document 01 has no line for a refused call, which this printer never makes
 abbrev pub endLine : Report → List ℕ → List ℕ

@@ -1,7 +1,7 @@
 -- The letter, the size, a space, the CDI and the end of the line, behind one another.
 use native.Mathlib.Omega.{arith}
 use mathlib.Core.Path.{_≡_}
-use mathlib.Core.List.{[], _∷_, _++_}
+use mathlib.Core.List.{[], _∷_}
 use lib.ListN.{length}
 use Rattle.printer.specs.Lines.{hexOf, decimalOf}
 use Rattle.printer.proofs.Texts.{adds-both}
@@ -25,11 +25,11 @@ returns c =
     let d = p .before in
     let l = d .before in
     let a = l .before .args in
-    let hex = h .put-hex .result in
-    let e = adds-both (d .put-decimal .result) (p .put .result) hex (32 ∷ []) (hexOf (a .t3)) (p .put .ensures .1) (h .put-hex .ensures .1) in
-    let e1 = adds-both (l .letter .result) (d .put-decimal .result) hex (decimalOf (a .size)) _ (d .put-decimal .ensures .1) e in
-    let e2 = adds-both (l .letter .result) hex (c .put2 .result) _ (10 ∷ []) e1 (c .put2 .ensures .1) in
-    adds-both (a .t) (l .letter .result) (c .put2 .result) (83 ∷ 32 ∷ []) _ (l .letter .ensures .1) e2
+    let r = l .letter .result in
+    let e = adds-both r (d .put-decimal .result) (p .put .result) (decimalOf (a .size)) (32 ∷ []) (d .put-decimal .ensures .1) (p .put .ensures .1) in
+    let e1 = adds-both r (p .put .result) (h .put-hex .result) _ (hexOf (a .t3)) e (h .put-hex .ensures .1) in
+    let e2 = adds-both r (h .put-hex .result) (c .put2 .result) _ (10 ∷ []) e1 (c .put2 .ensures .1) in
+    adds-both (a .t) r (c .put2 .result) (83 ∷ 32 ∷ []) _ (l .letter .ensures .1) e2
 
 pub start-line-spec : {M : Type 1} → statement M
 start-line-spec =
