@@ -6,7 +6,6 @@ mod replies;
 ghost use mathlib.Core.Path.{_≡_};
 ghost use mathlib.Core.Bool.{not};
 ghost use lib.Dec.{eqb};
-ghost use lib.ListN.{length};
 ghost use Rattle.client.specs.Answers.{numberOf};
 ghost use Rattle.client.specs.Frames.{refusal, secretOf, makingAs, makingOf, making};
 ghost use Rattle.client.specs.Replies.{takingOf, taking, takingAs, takingInto};

@@ -1,19 +1,17 @@
 -- The turns fold to the output.
-use Prim.Native.Nat.{ℕ, _+_, _-_, _^_, _<_, _≤_}
+use Prim.Native.Nat.{ℕ, _+_, _^_, _<_, _≤_}
 use native.Mathlib.Omega.{arith}
-use mathlib.Core.Bool.{Bool, true, false, cond}
-use mathlib.Core.Path.{_≡_, refl, ap, _∙_}
-use mathlib.Core.List.{List, [], _∷_, _++_, append-nil}
+use mathlib.Core.Bool.{Bool, true, false}
+use mathlib.Core.Path.{_≡_, refl}
+use mathlib.Core.List.{List, [], _∷_, append-nil}
 use lib.Dec.{eqb, ltb}
-use lib.ListN.{length, take, drop, replicate, length-take, length-drop, drop-of-length-le}
+use lib.ListN.{length, take, drop, length-take, length-drop, drop-of-length-le}
 use lib.Seq.{take-append-seam, take-all}
 use borrow.Author.Tests.{ne-eqb, lt-ltb, le-ltb, ltb-true, ltb-false}
-use Rattle.protocol.specs.Replies.{filled}
-use Rattle.loader.specs.State.{zeros}
 use Rattle.loader.specs.Answers.{Outcome}
 use Rattle.printer.specs.Lines.{waitingLine, errorLine, textOf}
-use Rattle.printer.specs.Output.{begun, received, callText, Output, behind, outputFrom, output}
-use Rattle.printer.specs.Turns.{turnOf, opening, turned, loop, turns}
+use Rattle.printer.specs.Output.{begun, received, callText, outputFrom, output}
+use Rattle.printer.specs.Turns.{turnOf, opening, loop, turns}
 
 -- what is written of a text is its lines
 pub lines-of : (x : List ℕ) → take (textOf x .len) (textOf x .bytes) ≡ x

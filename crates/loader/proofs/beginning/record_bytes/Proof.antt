@@ -1,5 +1,5 @@
 -- The copy fills the array whole.
-use mathlib.Core.Path.{_≡_, _∙_}
+use mathlib.Core.Path.{_∙_}
 use lib.ListN.{replicate}
 use Rattle.blake2s.proofs.Lists.{copied}
 use borrow.Author.Needs.{needs}

@@ -1,7 +1,6 @@
 -- The two bounds.
 use native.Mathlib.Omega.{arith}
 use borrow.Author.Tests.{le-leb}
-use borrow.Author.Needs.{needs}
 use Rattle.loader.proofs.states.ram_ok.Statement.{statement}
 use Rattle.loader.proofs.states.ram_ok.Tie as tie
 

@@ -1,8 +1,6 @@
 -- The invariant keeps RAM's length, and how often is still to be loaded is the measure.
-use Prim.Native.Nat.{_≤_, _-_}
 use lib.ListN.{length}
 use borrow.Author.Needs.{needs}
-use native.Mathlib.Omega.{arith}
 use mathlib.Core.Path.{_≡_, refl}
 use Rattle.throughput.proofs.cable.repeat.Statement.{statement}
 use Rattle.throughput.proofs.cable.repeat.Tie as tie
