@@ -14,11 +14,11 @@ use Rattle.printer.specs.Output.{begun, received, callText, outputFrom, 
 use Rattle.printer.specs.Turns.{turnOf, opening, loop, turns}
 
 -- what is written of a text is its lines
-pub lines-of : (x : List ℕ) → take (textOf x .len) (textOf x .bytes) ≡ x
+lines-of : (x : List ℕ) → take (textOf x .len) (textOf x .bytes) ≡ x
 unfolding textOf
 lines-of x = take-append-seam x _
 
-pub loop-is : (bytes : List ℕ) (o : Outcome) (n : ℕ) → n + length bytes < 2 ^ 64 → loop (turnOf n o) (o .ram) (296 + n) bytes ≡ outputFrom o n bytes
+loop-is : (bytes : List ℕ) (o : Outcome) (n : ℕ) → n + length bytes < 2 ^ 64 → loop (turnOf n o) (o .ram) (296 + n) bytes ≡ outputFrom o n bytes
 loop-is [] o n h = rw (lines-of (callText o), lines-of (waitingLine n))
 loop-is (b ∷ bytes) o n h =
     let e : eqb n 18446744073709551615 ≡ false = ne-eqb n 18446744073709551615 (λ z. omega arith) in

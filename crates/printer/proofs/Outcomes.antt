@@ -2,15 +2,16 @@
 use Prim.Native.Nat.{ℕ}
 use mathlib.Core.Bool.{Bool}
 use mathlib.Core.Path.{_≡_, ap}
-use mathlib.Core.List.{List, _++_}
+use mathlib.Core.List.{List, [], _++_}
 use lib.ListN.{take, drop}
 use Rattle.loader.specs.State.{zeros}
 use Rattle.loader.specs.Begin.{Beginning, beginningOf, beginning}
+use Rattle.loader.specs.Machine.{plain}
 use Rattle.loader.specs.declared.Begun.{Begun}
 use Rattle.loader.specs.Answers.{Outcome, reportOf, outcome}
 use Rattle.loader.specs.declared.Received.{Received}
 use Rattle.printer.specs.Lines.{endLine, textOf}
-use Rattle.printer.specs.Output.{wordsIn, begunWith, begun, replyText, isOver}
+use Rattle.printer.specs.Output.{wordsIn, begun, replyText, isOver}
 use Rattle.printer.specs.Turns.{turnOf, opened}
 use Rattle.printer.specs.declared.lines.Text.{Text}
 use Rattle.printer.specs.declared.turns.Turn.{Turn}
@@ -29,4 +30,4 @@ pub opened-as : (b : Begun) (front words : List ℕ) (m : ℕ) (text : Text) (ov
     (opened front m)
 unfolding begun
 opened-as b front words m text over e ew et eo =
-    rw (ew, et, eo) (ap (λ (x : Beginning). turnOf 0 (begunWith x (zeros m) (wordsIn front))) e)
+    rw (ew, et, eo) (ap (λ (x : Beginning). turnOf 0 (plain (x .report) 0 (x .state) [] (zeros m) (wordsIn front))) e)

@@ -17,7 +17,7 @@ longer l b = record { len = l .len + 1; bytes = set (l .bytes) (l .len) b }
 filled : (t : List ℕ) (b k : ℕ) → set (t ++ replicate (suc k) 0) (length t) b ≡ (t ++ b ∷ []) ++ replicate k 0
 filled t b k = set-append-seam t 0 (replicate k 0) b ∙ sym (append-assoc t (b ∷ []) (replicate k 0))
 
-pub one-more : (t : List ℕ) (b : ℕ) → length t < 349 → longer (textOf t) b ≡ textOf (t ++ b ∷ [])
+one-more : (t : List ℕ) (b : ℕ) → length t < 349 → longer (textOf t) b ≡ textOf (t ++ b ∷ [])
 unfolding textOf
 one-more t b h =
     let e : 349 - length t ≡ suc (348 - length t) = omega arith in
@@ -26,7 +26,7 @@ one-more t b h =
     rw (n, d, e, filled t b (348 - length t))
 
 -- how long it is
-pub len-is : (l : Text) (t : List ℕ) → l ≡ textOf t → l .len ≡ length t
+len-is : (l : Text) (t : List ℕ) → l ≡ textOf t → l .len ≡ length t
 unfolding textOf
 len-is l t e = ap (λ (x : Text). x .len) e
 

@@ -8,7 +8,7 @@ use lib.ListN.{length, take, drop}
 use Rattle.blake2s.specs.Rfc7693.{each, word}
 use Rattle.loader.specs.Answers.{Report, refused, continues, stopped, started, Outcome}
 use Rattle.loader.specs.State.{zeros}
-use Rattle.loader.specs.Begin.{Beginning, beginning}
+use Rattle.loader.specs.Begin.{beginning}
 use Rattle.loader.specs.Machine.{plain, step}
 use Rattle.loader.specs.declared.State.{State}
 use Rattle.printer.specs.Lines.{replyLine, waitingLine, errorLine, endLine}
@@ -17,13 +17,11 @@ use Rattle.printer.specs.Lines.{replyLine, waitingLine, errorLine, endLi
 abbrev pub wordsIn : List ℕ → List ℕ
 wordsIn front = each 8 (λ i. word front (256 + 4 * i))
 
--- what begin leads to, as a call without a reply, with a UDS and RAM
-abbrev pub begunWith : Beginning → List ℕ → List ℕ → Outcome
-begunWith b ram uds = plain (b .report) 0 (b .state) [] ram uds
-
--- begin on the first 296 bytes; RAM is m zeros
+-- begin on the first 296 bytes, as a call without a reply; RAM is m zeros
 unfoldable pub begun : List ℕ → ℕ → Outcome
-begun front m = begunWith (beginning (take 256 front) (drop 288 front) m) (zeros m) (wordsIn front)
+begun front m =
+    let b = beginning (take 256 front) (drop 288 front) m in
+    plain (b .report) 0 (b .state) [] (zeros m) (wordsIn front)
 
 -- a byte is received with a reply room of 129 zeros
 unfoldable pub received : State → List ℕ → List ℕ → ℕ → Outcome
