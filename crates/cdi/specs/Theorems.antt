@@ -48,7 +48,7 @@ someUss =
 abbrev pub someString : Bool → Bool → List ℕ
 someString chained used = cdiString someUds chained someMeasuredId someDigest used someUss
 
--- those strings as literal bytes. With the domain's bits or the measurements exchanged in definition and code alike, only this is untrue
+-- those strings as literal bytes. With the domain's bits or the measurements exchanged in definition and code alike, all else here stays true
 pub record Strings : Type 0 where
   -- direct, without a user secret: UDS, domain 0, digest
   pub direct : someString false false ≡

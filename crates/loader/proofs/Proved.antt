@@ -13,7 +13,7 @@ use Rattle.loader.specs.State.{zeros, incomingOk, progressOk, ramOk, inR
 use Rattle.loader.specs.Answers.{refused, continues, stopped, started, refusalNumber, stopNumber, reportOf, Outcome}
 use Rattle.loader.specs.Begin.{Beginning, ending, waitingWith, configOf, byType, beginning}
 use Rattle.loader.specs.Machine.{starting, refusal, refusing, step}
-use Rattle.loader.specs.Theorems.{Loader, withUds, number}
+use Rattle.loader.specs.Theorems.{Loader, withUds, withCdi, number}
 use Rattle.loader.proofs.Ranges.{by-test, range-facts}
 use Rattle.loader.proofs.Steps.{admitted}
 use Rattle.loader.proofs.Ways.{Writes, called, by-words, step-called, by-step}
@@ -298,6 +298,20 @@ module _ (s : State) (b : ℕ) (room ram uds : List ℕ) where
         fail = λ i d ram1 y. y;
       })
 
+  without-reply : step s b room ram uds .reply ≡ 0 → step s b room ram uds .ram ≡ ram
+  unfolding starting
+  without-reply =
+      by-step s b room ram uds (λ (o : Outcome). o .reply ≡ 0 → o .ram ≡ ram)
+      (record {
+        refused = λ k e n q. refl;
+        more = λ i o q. refl;
+        halt = λ k n q. refl;
+        reply = λ r f q. refl;
+        progress = λ r f p ram1 o v y q. absurd (omega arith);
+        start = λ i d ram1 y q. absurd (omega arith);
+        fail = λ i d ram1 y q. absurd (omega arith);
+      })
+
   abbrev Unread : (List ℕ → Outcome) → Type 0
   Unread f =
       ((a n : ℕ) → f uds .report ≡ started a n → ⊥) → (f uds .uds ≡ uds) × ((other : List ℕ) → f other ≡ withUds (f uds) other)
@@ -321,6 +335,30 @@ module _ (s : State) (b : ℕ) (room ram uds : List ℕ) where
       × ((other : List ℕ) → length other ≡ length uds → step s b room ram other ≡ withUds (step s b room ram uds) other)
   unfolding step
   secret r = let u = unread r in (u .0, λ o e. step-called s b room ram (length uds) o e ∙ u .1 o)
+
+  abbrev OnlyCdi : ℕ → ℕ → (List ℕ → Outcome) → Type 0
+  OnlyCdi a n f = f uds .report ≡ started a n → (other : List ℕ) → f other ≡ withCdi (f uds) (f other .cdi)
+
+  only-cdi : (a n : ℕ) → OnlyCdi a n (called (number s b room ram uds) s b room ram)
+  unfolding starting
+  only-cdi a n =
+      by-words s b room ram (length uds) (OnlyCdi a n)
+      (record {
+        refused = λ j e k q. apart (cc);
+        more = λ i o q. apart (cc);
+        halt = λ w k q. apart (cc);
+        reply = λ r f q. apart (cc);
+        progress = λ r f p ram1 o v y q. apart (cc);
+        start = λ i d ram1 y q o. refl;
+        fail = λ i d ram1 y q. apart (cc);
+      })
+
+  identity : (a n : ℕ) → step s b room ram uds .report ≡ started a n → (other : List ℕ) → length other ≡ length uds
+      → step s b room ram other ≡ withCdi (step s b room ram uds) (step s b room ram other .cdi)
+  unfolding step
+  identity a n r o e =
+      let c = step-called s b room ram (length uds) o e in
+      c ∙ only-cdi a n r o ∙ ap (λ (x : Outcome). withCdi (step s b room ram uds) (x .cdi)) (sym c)
 
 -- ---- begin
 
@@ -367,11 +405,13 @@ loader = record {
     fits = fits s b room ram uds;
     beyond = beyond s b room ram uds;
     beyond-block = beyond-block s b room ram uds;
+    without-reply = without-reply s b room ram uds;
     goes-on = goes-on s b room ram uds;
     lives = lives s b room ram uds;
     stops = stops s b room ram uds;
     starts = starts s b room ram uds;
     secret = secret s b room ram uds;
+    identity = identity s b room ram uds;
   };
   begun = begun;
   no-session = no-session;

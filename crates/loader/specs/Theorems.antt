@@ -52,6 +52,20 @@ withUds o uds =
       uds = uds;
     }
 
+-- and with another CDI
+abbrev pub withCdi : Outcome → List ℕ → Outcome
+withCdi o cdi =
+    record {
+      report = o .report;
+      reply = o .reply;
+      state = o .state;
+      cdi = cdi;
+      digest = o .digest;
+      room = o .room;
+      ram = o .ram;
+      uds = o .uds;
+    }
+
 -- a call on any state, in range or not, with any byte and anything lent
 module _ (s : State) (b : ℕ) (room ram uds : List ℕ) where
   -- the number that the call is refused with, 0 for none
@@ -72,8 +86,10 @@ module _ (s : State) (b : ℕ) (room ram uds : List ℕ) where
     -- a reply has at most 129 bytes, and beyond it the room is as it was
     pub fits : after .reply ≤ 129
     pub beyond : drop (after .reply) (after .room) ≡ drop (after .reply) room
-    -- only the block's bytes of RAM are written; that the gathered body has 128 bytes is its type in the code
+    -- only the block's bytes of RAM are written, and those only by a call that replies; that the gathered body has 128 bytes is its type in
+    -- the code
     pub beyond-block : length (s .incoming .body) ≡ 128 → SameButBlock s (after .ram) ram
+    pub without-reply : after .reply ≡ 0 → after .ram ≡ ram
     -- while the session goes on, what begin fixed and the UDS stay, and neither CDI nor digest is given
     pub goes-on : after .report ≡ continues
         → (after .state .config ≡ s .config) × (after .uds ≡ uds)
@@ -90,9 +106,12 @@ module _ (s : State) (b : ℕ) (room ram uds : List ℕ) where
     pub starts : (address size : ℕ) → after .report ≡ started address size
         → (address ≡ 0x40000000) × (size ≡ s .progress .size) × (after .state ≡ ended phase.Started (s .config .«ram_len»))
         × (after .uds ≡ zeros 8) × (after .reply ≡ 129)
-    -- the UDS is read only at a start: a call that answers none leaves its words, and does the same with any others, if they are as many
+    -- only a start depends on the UDS (document 01: it is read only at a start): a call that answers none leaves its words, and does the same
+    -- with any others, if they are as many; with others a start gives another CDI, and all else is the same
     pub secret : ((address size : ℕ) → after .report ≡ started address size → ⊥)
         → (after .uds ≡ uds) × ((other : List ℕ) → length other ≡ length uds → step s b room ram other ≡ withUds after other)
+    pub identity : (address size : ℕ) → after .report ≡ started address size
+        → (other : List ℕ) → length other ≡ length uds → step s b room ram other ≡ withCdi after (step s b room ram other .cdi)
 
 pub record Loader : Type 0 where
   -- the reported number and values settle the answer

@@ -52,7 +52,8 @@ stopLine k = ascii "F " ++ decimalOf k ++ ascii "\n"
 abbrev pub errorLine : ℕ → List ℕ
 errorLine k = ascii "E " ++ decimalOf k ++ ascii "\n"
 
--- the last line, by what a call reports: none while the session goes on. Document 01 has no line for a refused call, which this printer never makes
+-- the last line, by what a call reports: none while the session goes on. Document 01 has no line for a refused call, and `headlog` makes
+-- none
 abbrev pub endLine : Report → List ℕ → List ℕ
 endLine (refused k) cdi = errorLine k
 endLine continues cdi = []

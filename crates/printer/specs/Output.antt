@@ -47,6 +47,7 @@ pub record Output : Type 0 where
   pub printed : List ℕ
   pub read : ℕ
 
+-- an output behind a text
 abbrev pub behind : List ℕ → Output → Output
 behind text x = record { printed = text ++ x .printed; read = x .read }
 

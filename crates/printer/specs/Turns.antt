@@ -24,6 +24,7 @@ turnOf n o =
       over = isOver (o .report);
     }
 
+-- begin's turn, with all of the first 296 bytes
 abbrev pub opened : List ℕ → ℕ → Turn
 opened front m = turnOf 0 (begun front m)
 

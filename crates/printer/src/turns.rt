@@ -69,8 +69,8 @@ fn begin(front: [u8; 296], ram_len: usize) -> Turn
     }
 }
 
-// Every other turn, with the RAM that the turn before left. A byte is refused only where RAM has not the length that it had at the first
-// turn, or the session is over; it is then printed as `E` and the number.
+// Every other turn, with the RAM that the turn before left. Of a session from `open`, a byte is refused only where RAM has another length or
+// the session is over; it is then printed as `E` and the number.
 pub fn advance(s: Session, next: Next, ram: &mut [u8]) -> Turn
     ensures turn { λ r. ⌜ r ≡ turned s next (now (ram .entry)) ⌝ }
     ensures ram { λ r. ⌜ now (ram .exit) ≡ ramAfter s next (now (ram .entry)) ⌝ }
