@@ -10,7 +10,7 @@ use lib.Seq.{take-append-seam, take-all}
 use borrow.Author.Tests.{ne-eqb, lt-ltb, le-ltb, ltb-true, ltb-false}
 use Rattle.loader.specs.Answers.{Outcome}
 use Rattle.printer.specs.Lines.{waitingLine, errorLine, textOf}
-use Rattle.printer.specs.Output.{begun, received, callText, outputFrom, output}
+use Rattle.printer.specs.Output.{afterBegin, received, callText, outputFrom, output}
 use Rattle.printer.specs.Turns.{turnOf, opening, loop, turns}
 
 -- what is written of a text is its lines
@@ -34,10 +34,10 @@ short input m h =
     rw (t, d, lt-ltb (length input) 296 h, lines-of (errorLine 1), append-nil)
 
 long : (input : List ℕ) (m : ℕ) → 296 ≤ length input → length input < 2 ^ 64 → turns input m ≡ output input m
-unfolding output opening begun
+unfolding output opening afterBegin
 long input m h l =
     let n : length (take 296 input) ≡ 296 = rw length-take (omega arith) in
-    rw (n, append-nil, le-ltb (length input) 296 h) (loop-is (drop 296 input) (begun (take 296 input) m) 0 (rw length-drop (omega arith)))
+    rw (n, append-nil, le-ltb (length input) 296 h) (loop-is (drop 296 input) (afterBegin (take 296 input) m) 0 (rw length-drop (omega arith)))
 
 pub folds : (input : List ℕ) (m : ℕ) → length input < 2 ^ 64 → turns input m ≡ output input m
 folds input m l = go (ltb (length input) 296) refl

@@ -11,8 +11,8 @@ use Rattle.loader.specs.declared.Begun.{Begun}
 use Rattle.loader.specs.Answers.{Outcome, reportOf, outcome}
 use Rattle.loader.specs.declared.Received.{Received}
 use Rattle.printer.specs.Lines.{endLine, textOf}
-use Rattle.printer.specs.Output.{wordsIn, begun, replyText, isOver}
-use Rattle.printer.specs.Turns.{turnOf, opened}
+use Rattle.printer.specs.Output.{wordsIn, afterBegin, replyText, isOver}
+use Rattle.printer.specs.Turns.{turnOf, beginTurn}
 use Rattle.printer.specs.declared.lines.Text.{Text}
 use Rattle.printer.specs.declared.turns.Turn.{Turn}
 
@@ -23,11 +23,11 @@ pub turn-as : (r : Received) (room ram words : List ℕ) (o : Outcome) (n : ℕ)
     (turnOf n o)
 turn-as r room ram words o n text over e et eo = rw (et, eo) (ap (turnOf n) e)
 
-pub opened-as : (b : Begun) (front words : List ℕ) (m : ℕ) (text : Text) (over : Bool) → beginningOf b ≡ beginning (take 256 front) (drop 288 front) m
+pub turn-of-begin : (b : Begun) (front words : List ℕ) (m : ℕ) (text : Text) (over : Bool) → beginningOf b ≡ beginning (take 256 front) (drop 288 front) m
     → words ≡ wordsIn front → text ≡ textOf (endLine (reportOf (b .answer)) (zeros 32)) → over ≡ isOver (reportOf (b .answer))
     → _≡_ {A = Turn}
     (record { session = record { state = b .state; words = words; heard = 0 }; text = text; over = over })
-    (opened front m)
-unfolding begun
-opened-as b front words m text over e ew et eo =
+    (beginTurn front m)
+unfolding afterBegin
+turn-of-begin b front words m text over e ew et eo =
     rw (ew, et, eo) (ap (λ (x : Beginning). turnOf 0 (plain (x .report) 0 (x .state) [] (zeros m) (wordsIn front))) e)

@@ -14,7 +14,7 @@ use Rattle.loader.specs.State.{inRange, ended}
 use Rattle.loader.specs.Begin.{beginning}
 use Rattle.loader.specs.Machine.{gathered, loadAnswer, afterLoad, starting, finishedWith, actedBlock, acted, refusal, processed, step}
 use Rattle.printer.specs.Lines.{hexOf, decimalOf}
-use Rattle.printer.specs.Output.{begun, received, output}
+use Rattle.printer.specs.Output.{afterBegin, received, output}
 use Rattle.printer.specs.Theorems.{Printer}
 use Rattle.printer.proofs.Folds.{folds}
 
@@ -23,7 +23,7 @@ two-digits [] = refl
 two-digits (b ∷ s) = let e = two-digits s in omega arith
 
 pub printer : Printer
-unfolding output decimalOf begun received beginning step refusal processed gathered acted inRange ended putIn recordAt word headerAt nameReply udiReply replyHeader headerByte loadIn loadAnswer loadReply afterLoad actedBlock finishedWith starting digestReply cdiString cdiOf rotr words bytes iv sigma added xorRotated G workVector round rounds F padded input blockAt blockCount leading compressions compressed initial blake2s
+unfolding output decimalOf afterBegin received beginning step refusal processed gathered acted inRange ended putIn recordAt word headerAt nameReply udiReply replyHeader headerByte loadIn loadAnswer loadReply afterLoad actedBlock finishedWith starting digestReply cdiString cdiOf rotr words bytes iv sigma added xorRotated G workVector round rounds F padded input blockAt blockCount leading compressions compressed initial blake2s
 printer = record {
   folds = folds;
   example = refl;

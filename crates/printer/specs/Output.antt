@@ -18,8 +18,8 @@ abbrev pub wordsIn : List ℕ → List ℕ
 wordsIn front = each 8 (λ i. word front (256 + 4 * i))
 
 -- begin on the first 296 bytes, as a call without a reply; RAM is m zeros
-unfoldable pub begun : List ℕ → ℕ → Outcome
-begun front m =
+unfoldable pub afterBegin : List ℕ → ℕ → Outcome
+afterBegin front m =
     let b = beginning (take 256 front) (drop 288 front) m in
     plain (b .report) 0 (b .state) [] (zeros m) (wordsIn front)
 
@@ -63,4 +63,4 @@ outputFrom o n (b ∷ bytes) =
 unfoldable pub output : List ℕ → ℕ → Output
 output input m =
     cond (ltb (length input) 296) (record { printed = errorLine 1; read = length input })
-    (outputFrom (begun (take 296 input) m) 0 (drop 296 input))
+    (outputFrom (afterBegin (take 296 input) m) 0 (drop 296 input))

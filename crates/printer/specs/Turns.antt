@@ -1,7 +1,7 @@
 -- The output turn by turn: what the promises of `open` and `advance` cite. That the turns fold to the output of specs/Output.antt is `folds` in
 -- specs/Theorems.antt.
-use Prim.Native.Nat.{ℕ, _+_}
-use mathlib.Core.Bool.{true, cond}
+use Prim.Native.Nat.{ℕ, _+_, _-_, _^_}
+use mathlib.Core.Bool.{Bool, true, cond}
 use mathlib.Core.List.{List, [], _∷_, _++_}
 use lib.Dec.{eqb, ltb}
 use lib.ListN.{length, take, drop}
@@ -9,7 +9,7 @@ use Rattle.loader.specs.State.{zeros}
 use Rattle.loader.specs.Answers.{Outcome}
 use Rattle.protocol.specs.Replies.{filled}
 use Rattle.printer.specs.Lines.{waitingLine, errorLine, textOf}
-use Rattle.printer.specs.Output.{begun, received, callText, isOver, Output, behind}
+use Rattle.printer.specs.Output.{afterBegin, received, callText, isOver, Output, behind}
 use Rattle.printer.specs.declared.turns.Session.{Session}
 use Rattle.printer.specs.declared.turns.Next.{Next}
 use Rattle.printer.specs.declared.turns.Next.the-variants.{Byte, End}
@@ -25,40 +25,44 @@ turnOf n o =
     }
 
 -- begin's turn, with all of the first 296 bytes
-abbrev pub opened : List ℕ → ℕ → Turn
-opened front m = turnOf 0 (begun front m)
+abbrev pub beginTurn : List ℕ → ℕ → Turn
+beginTurn front m = turnOf 0 (afterBegin front m)
 
 -- the first turn, with so many bytes got: under 296 there is no session
 unfoldable pub opening : List ℕ → ℕ → ℕ → Turn
 opening front got m =
-    cond (ltb got 296) (record { session = opened front m .session; text = textOf (errorLine 1); over = true }) (opened front m)
+    cond (ltb got 296) (record { session = beginTurn front m .session; text = textOf (errorLine 1); over = true }) (beginTurn front m)
 
 -- the input has ended
 abbrev pub waited : Session → Turn
 waited s = record { session = s; text = textOf (waitingLine (s .heard)); over = true }
 
--- every other turn; a session that has heard 2^64 - 1 bytes ends as if the input did
+-- the count has 64 bits: a session that has heard 2^64 - 1 bytes ends as if the input did
+abbrev pub isFull : Session → Bool
+isFull s = eqb (s .heard) (2 ^ 64 - 1)
+
+-- every other turn
 abbrev pub turned : Session → Next → List ℕ → Turn
 turned s End ram = waited s
-turned s (Byte b) ram = cond (eqb (s .heard) 18446744073709551615) (waited s) (turnOf (s .heard + 1) (received (s .state) (s .words) ram b))
+turned s (Byte b) ram = cond (isFull s) (waited s) (turnOf (s .heard + 1) (received (s .state) (s .words) ram b))
 
 -- and what RAM then holds
 abbrev pub ramAfter : Session → Next → List ℕ → List ℕ
 ramAfter s End ram = ram
-ramAfter s (Byte b) ram = cond (eqb (s .heard) 18446744073709551615) ram (received (s .state) (s .words) ram b .ram)
+ramAfter s (Byte b) ram = cond (isFull s) ram (received (s .state) (s .words) ram b .ram)
 
 -- ---- the loop of `headlog`
 
 -- what is written of a turn
-abbrev pub written : Turn → List ℕ
-written t = take (t .text .len) (t .text .bytes)
+abbrev pub lines : Turn → List ℕ
+lines t = take (t .text .len) (t .text .bytes)
 
 -- from the turn t on, with n bytes read: until a turn is over, the next byte or the end of the input makes the next turn
 abbrev pub loop : Turn → List ℕ → ℕ → List ℕ → Output
-loop t ram n [] = record { printed = written t ++ cond (t .over) [] (written (turned (t .session) End ram)); read = n }
+loop t ram n [] = record { printed = lines t ++ cond (t .over) [] (lines (turned (t .session) End ram)); read = n }
 loop t ram n (b ∷ bytes) =
-    cond (t .over) (record { printed = written t; read = n })
-    (behind (written t) (loop (turned (t .session) (Byte b) ram) (ramAfter (t .session) (Byte b) ram) (n + 1) bytes))
+    cond (t .over) (record { printed = lines t; read = n })
+    (behind (lines t) (loop (turned (t .session) (Byte b) ram) (ramAfter (t .session) (Byte b) ram) (n + 1) bytes))
 
 -- the first turn takes the first 296 bytes at once
 abbrev pub turns : List ℕ → ℕ → Output

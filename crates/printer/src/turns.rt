@@ -4,7 +4,7 @@ ghost use Prim.Native.Nat.{_≤_};
 ghost use Rattle.loader.specs.Answers.{reportOf};
 ghost use Rattle.printer.specs.Lines.{textOf};
 ghost use Rattle.printer.specs.Output.{replyText, isOver};
-ghost use Rattle.printer.specs.Turns.{opened, opening, turned, ramAfter, waited};
+ghost use Rattle.printer.specs.Turns.{beginTurn, opening, turned, ramAfter, waited};
 ghost use Rattle.printer.specs.declared.turns.Next.the-variants as next;
 use super::input;
 use super::lines;
@@ -52,7 +52,7 @@ pub fn open(front: [u8; 296], got: usize, ram_len: usize) -> Turn
 
 // Begins a session with record, UDS and UDI.
 fn begin(front: [u8; 296], ram_len: usize) -> Turn
-    ensures { λ r. ⌜ r ≡ opened front «ram_len» ⌝ }
+    ensures { λ r. ⌜ r ≡ beginTurn front «ram_len» ⌝ }
 {
     let words = input::words_of(front);
     let begun = input::begin(front, ram_len);
