@@ -1,5 +1,5 @@
 -- The turns fold to the output.
-use Prim.Native.Nat.{ℕ, _+_, _^_, _<_, _≤_}
+use Prim.Native.Nat.{ℕ, _+_, _-_, _^_, _<_, _≤_}
 use native.Mathlib.Omega.{arith}
 use mathlib.Core.Bool.{Bool, true, false}
 use mathlib.Core.Path.{_≡_, refl}
@@ -21,7 +21,7 @@ lines-of x = take-append-seam x _
 loop-is : (bytes : List ℕ) (o : Outcome) (n : ℕ) → n + length bytes < 2 ^ 64 → loop (turnOf n o) (o .ram) (296 + n) bytes ≡ outputFrom o n bytes
 loop-is [] o n h = rw (lines-of (callText o), lines-of (waitingLine n))
 loop-is (b ∷ bytes) o n h =
-    let e : eqb n 18446744073709551615 ≡ false = ne-eqb n 18446744073709551615 (λ z. omega arith) in
+    let e : eqb n (2 ^ 64 - 1) ≡ false = ne-eqb n (2 ^ 64 - 1) (λ z. omega arith) in
     let a : 296 + n + 1 ≡ 296 + (n + 1) = omega arith in
     let l : n + 1 + length bytes < 2 ^ 64 = omega arith in
     rw (lines-of (callText o), e, a, loop-is bytes (received (o .state) (o .uds) (o .ram) b) (n + 1) l)

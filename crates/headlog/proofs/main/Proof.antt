@@ -4,10 +4,9 @@ use native.Mathlib.Omega.{arith}
 use mathlib.Core.Bool.{Bool, true, false, not, cond}
 use mathlib.Core.Path.{_≡_}
 use mathlib.Core.List.{List}
-use lib.Dec.{eqb}
 use lib.ListN.{length}
 use Rattle.printer.specs.Output.{received, isOver}
-use Rattle.printer.specs.Turns.{turned, turnOf, waited}
+use Rattle.printer.specs.Turns.{turnOf, isFull, waited, turned}
 use Rattle.printer.specs.declared.turns.Session.{Session}
 use Rattle.printer.specs.declared.turns.Next.{Next}
 use Rattle.printer.specs.declared.turns.Next.the-variants.{Byte, End}
@@ -17,17 +16,17 @@ use Rattle.headlog.proofs.main.Statement.{statement}
 use Rattle.headlog.proofs.main.Tie as tie
 
 abbrev left : Turn → ℕ
-left t = cond (t .over) 0 (18446744073709551616 - t .session .heard)
+left t = cond (t .over) 0 (2 ^ 64 - t .session .heard)
 
-fewer : (s : Session) (n : Next) (ram : List ℕ) → s .heard < 2 ^ 64 → left (turned s n ram) < 18446744073709551616 - s .heard
+fewer : (s : Session) (n : Next) (ram : List ℕ) → s .heard < 2 ^ 64 → left (turned s n ram) < 2 ^ 64 - s .heard
 fewer s End ram h = omega arith
-fewer s (Byte b) ram h = go (eqb (s .heard) 18446744073709551615)
+fewer s (Byte b) ram h = go (isFull s)
   where
-    either : (o : Bool) → cond o 0 (18446744073709551616 - (s .heard + 1)) < 18446744073709551616 - s .heard
+    either : (o : Bool) → cond o 0 (2 ^ 64 - (s .heard + 1)) < 2 ^ 64 - s .heard
     either true = omega arith
     either false = omega arith
 
-    go : (t : Bool) → left (cond t (waited s) (turnOf (s .heard + 1) (received (s .state) (s .words) ram b))) < 18446744073709551616 - s .heard
+    go : (t : Bool) → left (cond t (waited s) (turnOf (s .heard + 1) (received (s .state) (s .words) ram b))) < 2 ^ 64 - s .heard
     go true = omega arith
     go false = either (isOver (received (s .state) (s .words) ram b .report))
 
@@ -49,7 +48,7 @@ loop-less c =
     let n = c .before .before .before .before .before .read .result in
     let a = c .before .before .before .advance in
     let h : t .session .heard < 2 ^ 64 = search needs in
-    let f : left (a .result) < 18446744073709551616 - t .session .heard = rw (a .ensures .0) (fewer (t .session) n (p .ram) h) in
+    let f : left (a .result) < 2 ^ 64 - t .session .heard = rw (a .ensures .0) (fewer (t .session) n (p .ram) h) in
     not-over (left (a .result)) _ (t .over) (i .if1 .taken) f
 
 pub main-spec : {M : Type 1} → statement M

@@ -1,4 +1,5 @@
 -- What the call settles is the turn (`turn-as`).
+use Prim.Native.Nat.{_-_, _^_}
 use mathlib.Core.Path.{ap}
 use Rattle.loader.specs.Answers.{Outcome}
 use Rattle.printer.specs.Output.{received}
@@ -9,13 +10,13 @@ use Rattle.printer.proofs.turns.hear.Statement.{statement}
 use Rattle.printer.proofs.turns.hear.Tie as tie
 
 returns : tie.Need-returns
-returns c = let e = eq-eqb _ 18446744073709551615 (c .before .if1 .taken) in (rw e (c .wait .ensures), rw e)
+returns c = let e = eq-eqb _ (2 ^ 64 - 1) (c .before .if1 .taken) in (rw e (c .wait .ensures), rw e)
 
 returns-2 : tie.Need-returns-2
 unfolding received
 returns-2 c =
     let k = c .before .before .before .before .before .before .before .before .before .before in
-    let n = ne-eqb _ 18446744073709551615 (k .before .before .before .before .before .before .if1 .left) in
+    let n = ne-eqb _ (2 ^ 64 - 1) (k .before .before .before .before .before .before .if1 .left) in
     let e = c .before .end-line .ensures _ (c .before .before .reply .ensures .1) in
     (rw n (turn-as (k .receive .result) _ _ _ _ _ _ _ (k .receive .ensures) e (c .is-over .ensures)), rw n (ap (λ (o : Outcome). o .ram) (k .receive .ensures)))
 
