@@ -107,7 +107,7 @@ module _ (s : State) (b : ℕ) (room ram uds : List ℕ) where
         → (address ≡ 0x40000000) × (size ≡ s .progress .size) × (after .state ≡ ended phase.Started (s .config .«ram_len»))
         × (after .uds ≡ zeros 8) × (after .reply ≡ 129)
     -- only a start depends on the UDS (document 01: it is read only at a start): a call that answers none leaves its words, and does the same
-    -- with any others, if they are as many; with others a start gives another CDI, and all else is the same
+    -- with any others, if they are as many; with others a start may give another CDI, and all else is the same
     pub secret : ((address size : ℕ) → after .report ≡ started address size → ⊥)
         → (after .uds ≡ uds) × ((other : List ℕ) → length other ≡ length uds → step s b room ram other ≡ withUds after other)
     pub identity : (address size : ℕ) → after .report ≡ started address size
