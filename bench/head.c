@@ -1,6 +1,6 @@
 /*
  * The peer that `receive` is measured against: document 01's head as ordinary C, its state behind a pointer. It hears what
- * crates/throughput sends to the proved head, and prints the same lines. Link it with reference.c.
+ * crates/bench_load sends to the proved head, and prints the same lines. Link it with reference.c.
  */
 #include <stdint.h>
 #include <stdio.h>
@@ -219,7 +219,7 @@ static int hear(struct head *h, uint8_t byte, uint8_t *room, size_t room_len, ui
     return answer;
 }
 
-/* ---- what the server sends, as in crates/throughput */
+/* ---- what the server sends, as in crates/bench_load */
 
 static uint8_t frames[(1 + 1033) * 129], ram[RAM_LEN];
 

@@ -3,8 +3,8 @@
 # their ratios (below 1: the proved code is quicker). Needs gcc and python3.
 set -eu
 cd "$(dirname "$0")/.."
-rt check throughput >/dev/null
+rt check bench_load >/dev/null
 mkdir -p target/bench
 gcc -O3 -c bench/reference.c -o target/bench/reference.o
 gcc -O3 -Wall bench/head.c target/bench/reference.o -o target/bench/head
-python3 bench/receive.py target/bin/throughput target/bench/head
+python3 bench/receive.py target/bin/bench_load target/bench/head

@@ -58,8 +58,10 @@ class Head:
 
     ram: int
     udi: bytes = bytes(8)
-    required: bytes | None = None  # type 5 if there is one, otherwise type 4
-    measured_id: bytes | None = None  # the mask has RESET_SEED if there is one
+    verify: bool = False  # type 5, otherwise type 4
+    required: bytes = ZEROS
+    chained: bool = False  # the mask has RESET_SEED
+    measured_id: bytes = ZEROS
     phase: str = "waiting"
     size: int = 0
     block: int = 0
@@ -121,9 +123,6 @@ class Head:
         """Nothing but the RAM's length is kept."""
         vars(self).update(vars(Head(self.ram, phase=phase)))
 
-    def secrets(self):
-        return any(self.uss) or any(self.measured_id or ZEROS) or any(self.frame.body)
-
     # ---- a whole frame
 
     def act(self, f, room, ram, words):
@@ -174,7 +173,7 @@ class Head:
             return Answer("W", reply=self.reply(f, room, 0x06, 4, b"\0"))
         digest = blake2s(ram[: self.size])
         reply = self.reply(f, room, 0x07, 128, b"\0" + digest)
-        if self.required is not None and self.required != digest:
+        if self.verify and self.required != digest:
             return self.stop(25, reply)
         answer = Answer("S", self.size, reply, self.cdi(digest, words), digest)
         words[:] = [0] * 8
@@ -182,10 +181,9 @@ class Head:
         return answer
 
     def cdi(self, digest, words):
-        chained = self.measured_id is not None
-        domain = bytes([self.uss_used + 2 * chained])
+        domain = bytes([self.uss_used + 2 * self.chained])
         uds = b"".join(w.to_bytes(4, "little") for w in words)
-        return blake2s(uds + domain + (self.measured_id if chained else digest) + (self.uss if self.uss_used else b""))
+        return blake2s(uds + domain + (self.measured_id if self.chained else digest) + (self.uss if self.uss_used else b""))
 
 
 # ---- begin
@@ -200,9 +198,8 @@ def begin(record, udi, ram):
     kind = number(record[0:4])
     if kind not in (TYPE_CLIENT, TYPE_CLIENT_VER):
         return Answer("F", 20 if kind >= 6 else 21), Head(ram, phase="stopped")
-    required = record[8:40] if kind == TYPE_CLIENT_VER else None
-    measured_id = record[40:72] if number(record[4:8]) & 1 else None
-    return Answer("W"), Head(ram, udi, required, measured_id)
+    chained = number(record[4:8]) & 1 == 1
+    return Answer("W"), Head(ram, udi, kind == TYPE_CLIENT_VER, record[8:40], chained, record[40:72])
 
 
 # ---- the session printer

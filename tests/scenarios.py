@@ -1,28 +1,38 @@
 #!/usr/bin/env python3
-"""The expected standard output of the program `scenarios`: the same sessions, played to the head of head.py.
+"""Begin and receive against the head of head.py, call by call: sessions, states made by hand, also out of range, and everything lent with
+other lengths than it must have. The program `test_calls` makes each call; its answer, the next state, room, RAM and words must be the
+same, in accepted and refused calls alike.
 
-    scenarios.py                 prints it
-    scenarios.py --check FILE    exits non-zero, and says what differs, unless FILE holds it
+    scenarios.py                  plays them all
+    scenarios.py --store          writes the stored input and output of `test_calls`: document 01's example
+    scenarios.py --check          exits non-zero unless these are so stored
 """
+import random
+import struct
 import sys
+from collections import Counter
 from copy import deepcopy
-from itertools import chain
+from pathlib import Path
 
-import stored
-from head import ADDRESS, ZEROS, Answer, Frame, Head, begin, blake2s
+import calls
+from head import RAM_MOST, ZEROS, Answer, Frame, Head, begin, blake2s
+
+STORED = Path(__file__).parent.parent / "crates" / "test_calls"
 
 # What every scenario has in common.
 RAM = 300
 UDS = [int.from_bytes(bytes(range(16 + 4 * i, 20 + 4 * i)), "little") for i in range(8)]
 UDI = bytes(range(0xD0, 0xD8))
+REQUIRED = b"\xc3" * 32
 MEASURED_ID = b"\x3c" * 32
 PROGRAM = bytes((7 * i + 3) % 256 for i in range(3 * 127))
 COUNTING = bytes(range(0xA0, 0xC0))
+RANDOM_CALLS = 6000
 
 
 def waiting(**changes):
-    """A head that waits, but for the changes."""
-    return Head(**(dict(ram=RAM, udi=UDI) | changes))
+    """A head that waits, but for the changes. What it does not use is not zero, to show that it is not used."""
+    return Head(**(dict(ram=RAM, udi=UDI, required=REQUIRED, measured_id=MEASURED_ID) | changes))
 
 
 # ---- what the server sends
@@ -52,70 +62,45 @@ def blocks():
 # ---- a session
 
 
-def hexes(words):
-    return " ".join(f"{w:08x}" for w in words)
-
-
 class Session:
-    """A head with its memory, and the lines that the program prints of it."""
+    """A head with its memory, of which the fronts are lent. Every call is added to the calls."""
 
-    def __init__(self, head=None):
+    def __init__(self, what, made, head=None, words=UDS):
+        self.what = what
+        self.made = made
         self.head = head or waiting()
-        self.ram = bytearray(b"\xaa" * RAM)
-        self.words = list(UDS)
-        self.heard = 0
+        self.ram = bytearray(b"\xaa" * calls.RAM)
+        self.words = [*words, 0x5EED5EED][: calls.WORDS]
+        self.state, self.memory = calls.state_bytes(self.head), struct.pack("<9I", *self.words)
         self.answer = Answer("W")
 
     def send(self, data):
         """The bytes until the head ends: after that none is sent."""
         for byte in data:
-            if self.answer.kind != "W":
-                return
-            yield from self.offer(byte)
+            if self.answer.kind == "W":
+                self.offer(byte)
+        return self
 
-    def offer(self, byte):
-        room = bytearray(b"\xee" * 160)
-        self.answer = self.head.hear(byte, room, self.ram, self.words)
-        self.heard += 1
-        n = self.answer.reply
-        kept = room[n:] == b"\xee" * (160 - n)
-        if n:
-            yield f"R {room[:n].hex()}"
-            yield "room kept" if kept else "room CHANGED"
-        elif not kept:
-            yield "room CHANGED"
-
-    def finish(self):
-        a = self.answer
-        if a.kind == "W":
-            yield f"W {self.heard}"
-        elif a.kind == "S":
-            yield f"S {a.number} {a.cdi.hex()}"
-        else:
-            yield f"{a.kind} {a.number}"
-        yield f"words {hexes(self.words)}"
-        yield f"ram {blake2s(self.ram).hex()}"
-        if a.kind == "W":
-            yield "body held" if any(self.head.frame.body) else "body empty"
-        if a.kind == "S":
-            yield f"digest {a.digest.hex()}"
-            yield f"address {ADDRESS:08x}"
-        if a.kind in "SF":
-            yield f"heard {self.heard}"
-            yield "secrets LEFT" if self.head.secrets() else "secrets gone"
+    def offer(self, byte, room=calls.ROOM, ram=RAM, words=8):
+        """A call with so much lent. What is not lent must stay too."""
+        lent = [bytearray(b"\xee" * room), self.ram[:ram], self.words[:words]]
+        self.answer = self.head.hear(byte, *lent)
+        self.ram[:ram], self.words[:words] = lent[1:]
+        rest = b"\xee" * (calls.ROOM - room)
+        what = f"{self.what}, byte {byte:02x}"
+        self.made.receive(what, byte, (room, ram, words), self.state, self.memory, self.answer, self.head, lent[0] + rest, self.ram, self.words)
+        self.state = self.memory = None
+        return self
 
 
-def session(title, data, **head):
-    s = Session(waiting(**head))
-    yield f"# {title}"
-    yield from s.send(data)
-    yield from s.finish()
+def session(made, what, data, **head):
+    Session(what, made, waiting(**head)).send(data)
 
 
 # ---- sessions without a required digest
 
 
-def client_session():
+def client_session(made):
     passed_over = load(50, 1, COUNTING)
     data = frame(0x10, other(0x01))
     data += frame(0x03, passed_over) + frame(0x30, other(0x01))
@@ -129,61 +114,49 @@ def client_session():
     data += frame(0x13, block(0))
     data += frame(0x1B, block(2)) + frame(0x23, passed_over) + frame(0x08, other(0x01))
     data += frame(0x53, block(1))
-    s = Session()
-    yield "# type 4"
-    yield from s.send(data)
-    yield from s.finish()
-    yield f"ram-190 {s.ram[190:210].hex()}"
-    before = (bytes(s.ram), list(s.words))
-    yield from s.offer(0x10)
-    yield from s.finish()
-    yield "kept" if before == (s.ram, s.words) else "CHANGED"
+    Session("type 4", made).send(data).offer(0x10)
 
 
-def late_secret():
+def late_secret(made):
     """The device secret is another at the starting call."""
     data = frame(0x13, load(100)) + frame(0x13, block(0))
-    s = Session()
-    yield "# late secret"
-    yield from s.send(data[:-1])
-    s.words = [0xFEDCBA98] * 8
-    yield from s.send(data[-1:])
-    yield from s.finish()
+    s = Session("late secret", made).send(data[:-1])
+    Session("late secret, last byte", made, s.head, [0xFEDCBA98] * 8).send(data[-1:])
 
 
-def loads():
-    yield from session("query", frame(0x10, other(0x01)))
-    yield from client_session()
-    yield from session("unfinished", frame(0x13, load(300)) + frame(0x13, block(0)) + frame(0x13, block(1))[:-1])
-    yield from session("passing over", frame(0x1B, load(50, 1, COUNTING))[:-1])
-    yield from late_secret()
+def loads(made):
+    session(made, "query", frame(0x10, other(0x01)))
+    client_session(made)
+    session(made, "unfinished", frame(0x13, load(300)) + frame(0x13, block(0)) + frame(0x13, block(1))[:-1])
+    session(made, "passing over", frame(0x1B, load(50, 1, COUNTING))[:-1])
+    late_secret(made)
     for size in [1, 127, 128, 254, 255, 300]:
-        yield from session(f"size {size}", frame(0x33, load(size)) + blocks())
+        session(made, f"size {size}", frame(0x33, load(size)) + blocks())
     for flag in [0, 1, 2, 255]:
         for name, uss in [("zeros", ZEROS), ("counting", COUNTING)]:
-            yield from session(f"{name}, flag {flag}", frame(0x33, load(130, flag, uss)) + blocks())
+            session(made, f"{name}, flag {flag}", frame(0x33, load(130, flag, uss)) + blocks())
 
 
 # ---- sessions with a required digest, and chained ones
 
 
-def digests():
+def digests(made):
     right = blake2s(PROGRAM[:200])
     last_bit = right[:31] + bytes([right[31] ^ 0x01])
     first_bit = bytes([right[0] ^ 0x80]) + right[1:]
-    for title, flag, required, measured_id in [
-        ("required, right", 0, right, None),
-        ("required, right, secret", 1, right, None),
-        ("required, last bit wrong", 0, last_bit, None),
-        ("required, first bit wrong", 1, first_bit, None),
-        ("chained", 0, None, MEASURED_ID),
-        ("chained, secret", 1, None, MEASURED_ID),
-        ("chained, required, right", 1, right, MEASURED_ID),
-        ("chained, required, wrong", 1, last_bit, MEASURED_ID),
-        ("chained, measured_id required", 0, MEASURED_ID, MEASURED_ID),
+    for what, flag, required, chained in [
+        ("required, right", 0, right, False),
+        ("required, right, secret", 1, right, False),
+        ("required, last bit wrong", 0, last_bit, False),
+        ("required, first bit wrong", 1, first_bit, False),
+        ("chained", 0, None, True),
+        ("chained, secret", 1, None, True),
+        ("chained, required, right", 1, right, True),
+        ("chained, required, wrong", 1, last_bit, True),
+        ("chained, measured_id required", 0, MEASURED_ID, True),
     ]:
         data = frame(0x13, load(200, flag, COUNTING)) + blocks()
-        yield from session(title, data, required=required, measured_id=measured_id)
+        session(made, what, data, verify=required is not None, required=required or REQUIRED, chained=chained)
 
 
 # ---- stops
@@ -207,91 +180,73 @@ LOADING_STOPS = [
 ]
 
 
-def waits(pairs):
-    for header, command in pairs:
-        yield from session(f"waiting {header:02x}{command:02x}", frame(header, other(command)))
-
-
-def in_load(pairs):
-    for header, command in pairs:
-        yield from session(f"loading {header:02x}{command:02x}", LOADING + frame(header, other(command)))
-
-
-def stops():
-    yield from waits(WAITING_STOPS[0])
-    yield from in_load(LOADING_STOPS[0])
-    yield from waits(WAITING_STOPS[1])
-    yield from session("second load", LOADING + frame(0x13, block(0)) + frame(0x13, load(100)))
-    yield from in_load(LOADING_STOPS[1])
-    yield from waits(WAITING_STOPS[2])
-    yield from in_load(LOADING_STOPS[2])
+def stops(made):
+    for header, command in sum(WAITING_STOPS, []):
+        session(made, f"waiting {header:02x}{command:02x}", frame(header, other(command)))
+    for header, command in sum(LOADING_STOPS, []):
+        session(made, f"loading {header:02x}{command:02x}", LOADING + frame(header, other(command)))
+    session(made, "second load", LOADING + frame(0x13, block(0)) + frame(0x13, load(100)))
 
 
 # ---- begin
 
 
-def begin_with(record, ram=RAM):
-    answer, head = begin(record, b"\xd0" * 8, ram)
-    yield {"W": "waiting", "S": "started"}.get(answer.kind, f"{answer.kind} {answer.number}")
-    yield from call(head)
+def begin_with(made, what, record, ram=RAM, udi=UDI):
+    """Begin, and a byte on the state that it hands back."""
+    answer, head = begin(record, udi, ram)
+    made.begin(what, record, udi, ram, answer, head)
+    s = Session(what, made, head)
+    s.state = None
+    return s.offer(0x10)
 
 
-def begins():
+def begins(made):
     record = b"\4" + bytes(256)
-    yield "# begin: lengths"
     for n, ram in [(0, RAM), (255, RAM), (257, RAM), (256, 0), (256, 131073), (255, 0), (256, 1), (256, 131072), (256, RAM)]:
-        yield from begin_with(record[:n], ram)
-    yield "# begin: types"
+        begin_with(made, f"begin: record {n}, RAM {ram}", record[:n], ram)
     for kind in [0, 1, 2, 3, 4, 5, 6, 2**32 - 1, 0x104, 0x10005, 0x1000000]:
-        yield from begin_with(kind.to_bytes(4, "little") + bytes(252))
+        begin_with(made, f"begin: type {kind}", kind.to_bytes(4, "little") + bytes(252))
+    rng = random.Random(1)
+    for kind in [4, 5]:
+        for mask in [0, 1, 2, 0x80000001, 0xFFFFFFFE]:
+            record = kind.to_bytes(4, "little") + mask.to_bytes(4, "little") + rng.randbytes(248)
+            begin_with(made, f"begin: type {kind}, mask {mask:x}", record, RAM, rng.randbytes(8))
 
 
 # ---- refused calls
 
 
-def ripe(header=0x13, got=128, **changes):
-    """A head that starts with the next byte."""
+def last_block(header=0x13, got=128, **changes):
+    """A head that starts with the next byte, and then writes room, RAM and words: what a refusal must prevent."""
     changes = dict(phase="loading", size=100) | changes
     return waiting(frame=Frame(header, got, bytearray(block(0))), **changes)
 
 
-def asked(**changes):
+def last_of_query(**changes):
     """A head that replies to a query with the next byte, 0x01."""
     return waiting(frame=Frame(0x10, 1, bytearray(block(0))), **changes)
 
 
-def call(head, room=160, ram=RAM, words=8):
-    """A call with the fronts of these lent: what is not lent must stay too."""
-    lent = [bytearray(b"\xee" * room), bytearray(b"\xaa" * ram), [0x5EED5EED] * words]
-    before = deepcopy((head, lent))
-    answer = head.hear(0x01, *lent)
-    if answer.kind != "X":
-        yield "accepted"
-        return
-    yield f"X {answer.number}"
-    yield "kept" if before == (head, lent) else "CHANGED"
-
-
 OUT_OF_RANGE = {
     "gathered frame": [
-        ripe(0x10, 2),
-        ripe(0x11, 5),
-        ripe(0x12, 33),
-        ripe(0x13, 129),
-        ripe(0x93, 128),
-        ripe(0x17, 128),
-        ripe(0x13, 0),
+        last_block(0x10, 2),
+        last_block(0x11, 5),
+        last_block(0x12, 33),
+        last_block(0x13, 129),
+        last_block(0x93, 128),
+        last_block(0x17, 128),
+        last_block(0x13, 0),
     ],
     # The last two are in range, but what is lent has another length.
-    "RAM": [asked(ram=0), asked(ram=131073), asked(ram=1), asked(ram=131072)],
-    "waiting": [asked(size=1), asked(block=1), asked(uss_used=True), asked(uss=bytes(31) + b"\1")],
+    "RAM": [last_of_query(ram=0), last_of_query(ram=131073), last_of_query(ram=1), last_of_query(ram=131072)],
+    "waiting": [last_of_query(size=1), last_of_query(block=1), last_of_query(uss_used=True), last_of_query(uss=bytes(31) + b"\1")],
     "loading": [
-        ripe(size=0),
-        ripe(size=301),
-        ripe(size=2**32 - 1),
-        ripe(size=127, block=1),
-        ripe(size=300, block=3),
-        ripe(size=300, block=2**32 - 1),
+        last_block(size=0),
+        last_block(size=301),
+        last_block(size=2**32 - 1),
+        last_block(size=127, block=1),
+        last_block(size=300, block=3),
+        last_block(size=300, block=2**32 - 1),
     ],
 }
 
@@ -308,37 +263,108 @@ LENT = [
 ]
 
 
-def refusals():
+def refusals(made):
     for name, heads in OUT_OF_RANGE.items():
-        yield f"# out of range: {name}"
         for head in heads:
-            yield from call(head)
-    yield "# ended"
-    yield from call(ripe(phase="started", size=0))
-    yield from call(ripe(phase="stopped", size=0))
-    yield "# lent"
+            Session(f"out of range: {name}", made, deepcopy(head)).offer(0x01)
+    for phase in ["started", "stopped"]:
+        Session(phase, made, last_block(phase=phase, size=0)).offer(0x01)
     for lengths in LENT:
-        yield from call(ripe(), **lengths)
-    yield "# several"
-    yield from call(ripe(phase="started", size=0, ram=0), room=128, ram=299, words=7)
-    yield from call(ripe(phase="stopped", size=0), room=128, ram=299, words=7)
-    yield from call(ripe(), room=128, ram=299, words=7)
-    yield from call(ripe(), ram=299, words=7)
-    yield from between_bytes()
+        Session(f"lent {lengths}", made, last_block()).offer(0x01, **lengths)
+    few = dict(room=128, ram=299, words=7)
+    Session("1 to 5", made, last_block(phase="started", size=0, ram=0)).offer(0x01, **few)
+    Session("2 to 5", made, last_block(phase="stopped", size=0)).offer(0x01, **few)
+    Session("3 to 5", made, last_block()).offer(0x01, **few)
+    Session("4 and 5", made, last_block()).offer(0x01, ram=299, words=7)
+    between_bytes(made)
 
 
-def between_bytes():
+def between_bytes(made):
     """Refused calls within a frame: the session goes on."""
     data = frame(0x13, load(100, 1, COUNTING)) + frame(0x13, block(0))
-    cut = len(data) - 68
-    s = Session()
-    yield "# refused between bytes"
-    yield from s.send(data[:cut])
+    s = Session("refused between bytes", made).send(data[:-68])
     for lengths in [dict(room=128), dict(ram=299), dict(words=7)]:
-        yield from call(s.head, **lengths)
-    yield from s.send(data[cut:])
-    yield from s.finish()
+        s.offer(0x01, **lengths)
+        s.answer = Answer("W")
+    s.send(data[-68:])
+
+
+# ---- random calls
+
+
+def random_head(rng):
+    """A state with every field near its limits, in range or not."""
+    size, ram = rng.choice([0, 1, 100, 127, 128, 254, 255, 299, 300, 301]), rng.choice([RAM] * 20 + [0, 1, 299, RAM_MOST, RAM_MOST + 1])
+    frames = [Frame(rng.choice([0x10, 0x11, 0x13, 0x53, 0x1B, 0x02, 0x14, 0x90, rng.randrange(256)]), rng.choice([0, 1, 2, 4, 5, 32, 33, 127, 128, 129]))]
+    frames += [Frame(), Frame(0x13, 128), Frame(0x33, 128), Frame(0x10, 1)]
+    f = rng.choice(frames)
+    f.body[:] = rng.choice([load(size, rng.choice([0, 1, 2]), rng.randbytes(32)), block(0), rng.randbytes(128), bytes(128)])
+    head = waiting(ram=ram, verify=rng.random() < 0.3, chained=rng.random() < 0.5, frame=f, udi=rng.randbytes(8))
+    head.phase = rng.choice(["waiting"] * 4 + ["loading"] * 6 + ["started", "stopped"])
+    if head.phase == "loading" or rng.random() < 0.1:
+        head.size, head.block = rng.choice([1, 127, 128, 255, 300, size]), rng.choice([0, 0, 1, 2, 3, 2**32 - 1])
+        head.uss, head.uss_used = rng.choice([ZEROS, rng.randbytes(32)]), rng.random() < 0.5
+    return head
+
+
+def random_calls(made):
+    rng = random.Random(7)
+    for k in range(RANDOM_CALLS):
+        head = random_head(rng)
+        lengths = dict(room=rng.choice([160] * 9 + [129, 128, 0]), ram=rng.choice([head.ram] * 9 + [299, 301]) % 302, words=rng.choice([8] * 9 + [7, 9]))
+        if head.phase == "loading" and 1 <= head.size <= RAM and rng.random() < 0.5:
+            head.required = blake2s(b"\xaa" * head.size)  # never right, but for a block of 0xaa
+        s = Session(f"random call {k}", made, head, [rng.randrange(2**32) for _ in range(8)])
+        s.offer(rng.choice([0x01, 0x03, 0x05, 0x08, 0x10, 0xAA, rng.randrange(256)]), **lengths)
+
+
+# ---- document 01's example, which is what the gate's run of the program has on standard input
+
+
+def example():
+    made = calls.Calls()
+    record = b"\4" + bytes(255)
+    answer, head = begin(record, bytes(8), RAM)
+    made.begin("begin", record, bytes(8), RAM, answer, head)
+    s = Session("example", made, head, [0] * 8)
+    s.state = None
+    s.send(b"\x10\x01")
+    return made
+
+
+def check():
+    made = example()
+    wrong = [name for name, want in [("stdin", made.input()), ("stdout", made.output())] if (STORED / name).read_bytes() != want]
+    for name in wrong:
+        print(f"scenarios: {STORED / name} is not what the independent program says", file=sys.stderr)
+    return 1 if wrong else 0
+
+
+def store():
+    made = example()
+    (STORED / "stdin").write_bytes(made.input())
+    (STORED / "stdout").write_bytes(made.output())
+    return 0
+
+
+# What must come up, so that agreement says something.
+KINDS = ["W 0", "S", *(f"X {k}" for k in range(1, 8)), *(f"F {k}" for k in range(20, 26))]
+
+
+def main():
+    made = calls.Calls()
+    for part in [begins, loads, digests, stops, refusals, random_calls]:
+        part(made)
+    if what := made.play():
+        print(f"scenarios: {what}")
+        return 1
+    seen = Counter(kind for kind in made.answers())
+    print(f"scenarios: {len(made.data)} calls; " + ", ".join(f"{seen[k]} {k}" for k in KINDS))
+    return 0 if all(seen[k] for k in KINDS) else 1
 
 
 if __name__ == "__main__":
-    sys.exit(stored.main(__doc__, chain(begins(), loads(), digests(), stops(), refusals())))
+    wanted = {(): main, ("--store",): store, ("--check",): check}.get(tuple(sys.argv[1:]))
+    if wanted is None:
+        sys.exit(__doc__)
+    sys.exit(wanted())

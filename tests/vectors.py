@@ -1,28 +1,19 @@
 #!/usr/bin/env python3
-"""The expected standard output of the program `vectors`: hashes by hashlib, headers by their bits, CDIs by document 01's rule.
+"""Hashes in parts against hashlib, headers against their bits and CDIs against document 01's rule. The program `test_calls` makes each call;
+hashes in one call are in c_abi.py.
 
-    vectors.py                 prints it
-    vectors.py --check FILE    exits non-zero, and says what differs, unless FILE holds it
+    vectors.py
 """
 import hashlib
+import struct
 import sys
-from itertools import chain
 
-import stored
-
-# RFC 7693, appendix B and appendix E; and of the known answers that BLAKE2 is published with, those of the empty message.
-ABC = "508c5e8c327c14e2e1a72ba34eeb452f37458b209ed63a294d999b4c86675982"
-SELFTEST = "6a411f08ce25adcdfb02aba641451cec53c598b24f4fc787fbdc88797f4c1dfe"
-KAT = {
-    0: "69217a3079908094e11121d042354a7c1f55b6482ca1a51e1b250dfd1ed0eef9",
-    32: "48a8997da407876b3d79c0d92325ad3b89cbb754d86ab71aee047ad345fd2c49",
-}
+import calls
 
 LONGEST = 4294967295
 KEYS = [0, 1, 31, 32]
 LENGTHS = [0, 1, 63, 64, 65, 127, 128, 129, 255, 256]
 STEPS = [1, 7, 63, 64, 65]
-FILL = b"\xaa"
 
 
 def refusal(size=32, begun=None, key=0, total=0, in_range=True):
@@ -46,114 +37,88 @@ def counting(n, first=0):
     return bytes(i % 256 for i in range(first, first + n))
 
 
-def blake2s(key, msg, size=32):
-    return hashlib.blake2s(msg, digest_size=size, key=key).digest()
+class Hash:
+    """A hash in parts, beside hashlib's."""
+
+    def __init__(self, made, what, key=b"", size=32, message=None):
+        number = refusal(size=size, key=len(key))
+        self.made, self.what = made, what
+        self.hash = None if number else hashlib.blake2s(digest_size=size, key=key)
+        self.total, self.keyed, self.size = message or 0, bool(key) and not number, 0 if number else size
+        made.hash_begin(f"{what}, begin", key, size, message, number, self.context())
+
+    def context(self):
+        return [("message, keyed and size", struct.pack("<IBI", self.total, self.keyed, self.size))]
+
+    def update(self, part):
+        number = refusal(total=self.total + len(part), in_range=self.hash is not None)
+        if not number:
+            self.hash.update(part)
+            self.total += len(part)
+        self.made.hash_update(f"{self.what}, part of {len(part)}", part, number, self.context())
+        return self
+
+    def finish(self, size=32):
+        number = refusal(size=size, begun=self.size, in_range=self.hash is not None)
+        self.made.hash_finish(f"{self.what}, finish with {size}", size, number, b"" if number else self.hash.digest())
 
 
-def selftest_seq(n, seed):
-    a = 0xDEAD4BAD * seed % 2**32
-    b = 1
-    out = bytearray()
-    for _ in range(n):
-        t = (a + b) % 2**32
-        a = b
-        b = t
-        out.append(t >> 24)
-    return bytes(out)
+def in_parts(made):
+    for k in KEYS:
+        for n in LENGTHS:
+            for step in STEPS:
+                h = Hash(made, f"key {k}, message {n}, step {step}", counting(k))
+                for at in range(0, n, step):
+                    h.update(counting(min(step, n - at), at))
+                h.finish()
+    for size in range(1, 33):
+        Hash(made, f"size {size}", counting(size), size).update(b"abc").update(b"").update(bytes(200)).finish(size)
 
 
-def selftest():
-    grand = hashlib.blake2s(digest_size=32)
-    for size in [16, 20, 28, 32]:
-        for n in [0, 3, 64, 65, 255, 1024]:
-            msg = selftest_seq(n, n)
-            grand.update(blake2s(b"", msg, size))
-            grand.update(blake2s(selftest_seq(size, size), msg, size))
-    return grand.hexdigest()
+def limits(made):
+    for size in [0, 33, 255]:
+        Hash(made, f"size {size}", b"", size).update(b"abc").finish(min(size, 32))
+    for k in [33, 64]:
+        Hash(made, f"key {k}", counting(k)).update(b"abc").finish()
+    for size in [0, 31, 33, 255]:
+        Hash(made, "another size at the end").update(b"abc").finish(size)
+    # A context five bytes before the longest message, made by hand in place of a hash of 4 GiB.
+    Hash(made, "longest message", message=LONGEST - 5).update(b"abcdef").update(b"abcde").update(b"").update(b"a")
 
 
-def in_parts(key, msg, step):
-    h = hashlib.blake2s(digest_size=32, key=key)
-    for at in range(0, len(msg), step):
-        h.update(msg[at : at + step])
-    return h.hexdigest()
-
-
-def room_after(number, key, msg, size):
-    """The output's bytes after the call: a refused one leaves them."""
-    return blake2s(key, msg, size) if number == 0 else FILL * size
-
-
-def headers():
+def headers(made):
     lengths = {"00": 1, "01": 4, "10": 32, "11": 128}
     for b in range(256):
         bits = format(b, "08b")  # bit 7 first
-        if bits[0] == "1" or bits[5] == "1":
-            yield f"read {b} bad"
-        else:
-            yield f"read {b} {int(bits[1:3], 2)} {int(bits[3:5], 2)} {lengths[bits[6:8]]}"
+        bad = bits[0] == "1" or bits[5] == "1"
+        made.read_header(b, *([255] if bad else [int(bits[1:3], 2), int(bits[3:5], 2), lengths[bits[6:8]]]))
     codes = {n: code for code, n in lengths.items()}
     for i in [0, 1, 2, 3, 4, 255]:
         for ep in [0, 1, 2, 3, 4, 255]:
             for n in [0, 1, 2, 3, 4, 5, 31, 32, 33, 127, 128, 129, 2**32 + 1, 2**64 - 1]:
-                if i > 3 or ep > 3 or n not in codes:
-                    yield f"write {i} {ep} {n} refused 11"
-                else:
-                    yield f"write {i} {ep} {n} {int(f'0{i:02b}{ep:02b}0{codes[n]}', 2)}"
+                refused = i > 3 or ep > 3 or n not in codes
+                made.write_header(i, ep, n, 255 if refused else int(f"0{i:02b}{ep:02b}0{codes[n]}", 2))
 
 
-def known():
-    abc = blake2s(b"", b"abc").hex()
-    assert abc == ABC, abc
-    yield f"abc {abc}"
-    grand = selftest()
-    assert grand == SELFTEST, grand
-    yield f"selftest {grand}"
-    for k, digest in KAT.items():
-        assert blake2s(counting(k), b"").hex() == digest, k
-    for k in KEYS:
-        for n in LENGTHS:
-            yield f"kat {k} {n} {blake2s(counting(k), counting(n)).hex()}"
-    for k in KEYS:
-        for n in LENGTHS:
-            for step in STEPS:
-                yield f"parts {k} {n} {step} {in_parts(counting(k), counting(n), step)}"
-
-
-def limits():
-    for size in [0, 1, 32, 33]:
-        number = refusal(size=size)
-        yield f"size {size} {number} {room_after(number, b'', b'abc', size).hex()}"
-    for k in [0, 32, 33]:
-        number = refusal(key=k)
-        yield f"key {k} {number} {room_after(number, counting(k), b'abc', 32).hex()}"
-    begin = refusal(key=33)
-    # What a refused begin hands back is out of range.
-    later = refusal(in_range=begin == 0)
-    yield f"refused-begin {begin} {later} {later} {room_after(later, counting(33), b'abc', 32).hex()}"
-    yield f"refused-size {refusal(size=0)} {refusal(size=33)}"
-    number = refusal(size=31, begun=32)
-    yield f"finish-length {number} {room_after(number, b'', b'abc', 31).hex()}"
-    line = "long"
-    total = LONGEST - 5
-    for part in [6, 5]:
-        number = refusal(total=total + part)
-        total = total + part if number == 0 else total
-        line += f" {number} {total}"
-    yield line
-
-
-def identifiers():
+def identifiers(made):
     """UDS, domain, measurement, then USS if used; bit 0 of the domain says that it is used, bit 1 that the mask has RESET_SEED."""
-    uds, measured_id, digest, uss = (counting(32, first) for first in [0x00, 0x20, 0x40, 0x60])
-    for name, domain, measurement, end in [
-        ("direct", 0b00, digest, b""),
-        ("direct-uss", 0b01, digest, uss),
-        ("chained", 0b10, measured_id, b""),
-        ("chained-uss", 0b11, measured_id, uss),
-    ]:
-        yield f"cdi {name} {blake2s(b'', uds + bytes([domain]) + measurement + end).hex()}"
+    uds, measured_id, digest, uss = parts = [counting(32, first) for first in [0x00, 0x20, 0x40, 0x60]]
+    for chained in [False, True]:
+        for used in [False, True]:
+            string = uds + bytes([used + 2 * chained]) + (measured_id if chained else digest) + (uss if used else b"")
+            made.derive(f"CDI, chained {chained}, secret {used}", chained, used, parts, hashlib.blake2s(string).digest())
+
+
+def main():
+    made = calls.Calls()
+    for part in [in_parts, limits, headers, identifiers]:
+        part(made)
+    if what := made.play():
+        print(f"vectors: {what}")
+        return 1
+    print(f"vectors: {len(made.data)} calls")
+    return 0
 
 
 if __name__ == "__main__":
-    sys.exit(stored.main(__doc__, chain(headers(), known(), limits(), identifiers())))
+    sys.exit(main())

@@ -7,16 +7,15 @@ use native.Mathlib.Nat.{add-zero, zero-add, suc-add}
 use native.Mathlib.Omega.{arith}
 use lib.ListN.{length, take, drop, length-append, length-replicate, length-drop}
 use lib.Seq.{take-append-le, drop-append-le, drop-drop, take-all, length-take-le}
-use Rattle.blake2s.specs.Rfc7693.{F, words, padded, blockAt, Compression, leading, compressed}
+use Rattle.blake2s.specs.Rfc7693.{F, words, blockAt, Compression, leading, compressed}
+use Rattle.endian.specs.Lists.{padded}
 use Rattle.blake2s.specs.Steps.{compressedBlocks}
-use Rattle.blake2s.proofs.Lists.{each-ext}
+use Rattle.endian.proofs.Lists.{each-ext}
 
-pub length-padded : (x : List ℕ) → length x ≤ 64 → length (padded x) ≡ 64
-unfolding padded
+pub length-padded : (x : List ℕ) → length x ≤ 64 → length (padded 64 x) ≡ 64
 length-padded x h = simp (length-append, length-replicate) (omega arith)
 
-pub padded-full : (x : List ℕ) → length x ≡ 64 → padded x ≡ x
-unfolding padded
+pub padded-full : (x : List ℕ) → length x ≡ 64 → padded 64 x ≡ x
 padded-full x e = rw e (append-nil x)
 
 -- a block of which all bytes are there
@@ -27,7 +26,7 @@ block-full d i h =
     padded-full (take 64 (drop (64 * i) d)) (length-take-le 64 (drop (64 * i) d) (omega arith))
 
 -- the final block
-pub block-last : (d : List ℕ) (i : ℕ) → length d ≤ 64 * i + 64 → blockAt d i ≡ padded (drop (64 * i) d)
+pub block-last : (d : List ℕ) (i : ℕ) → length d ≤ 64 * i + 64 → blockAt d i ≡ padded 64 (drop (64 * i) d)
 unfolding blockAt
 block-last d i h =
     let l : length (drop (64 * i) d) ≡ length d - 64 * i = length-drop (64 * i) d in

@@ -6,15 +6,15 @@ use Prim.Native.Nat.{ℕ, suc, _+_, _-_, _*_, _<_, _≤_}
 use native.Mathlib.Omega.{arith}
 use lib.ListN.{length, take, drop, replicate, length-append, length-drop}
 use lib.Seq.{take-at, paste, drop-append-add, take-append-add, length-take-le, take-length}
-use Rattle.blake2s.specs.Rfc7693.{F, words, padded, blockAt}
+use Rattle.blake2s.specs.Rfc7693.{F, words, blockAt}
+use Rattle.endian.specs.Lists.{padded}
 use Rattle.blake2s.specs.Stream.{earlier, total, done, waiting, extended}
 use Rattle.blake2s.specs.declared.Context.{Context}
-use Rattle.blake2s.proofs.Lists.{drop-replicate}
+use Rattle.endian.proofs.Lists.{drop-replicate}
 use Rattle.blake2s.proofs.Blocks.{padded-full, block-full, block-last, block-behind, after, after-zero, after-suc}
 
 -- s put behind x in its block
-pub paste-padded : (x s : List ℕ) (n : ℕ) → length x ≡ n → n + length s ≤ 64 → paste (padded x) n s (length s) ≡ padded (x ++ s)
-unfolding padded
+pub paste-padded : (x s : List ℕ) (n : ℕ) → length x ≡ n → n + length s ≤ 64 → paste (padded 64 x) n s (length s) ≡ padded 64 (x ++ s)
 paste-padded x s n e l =
     let z : List ℕ = replicate (64 - length x) 0 in
     let k : n + length s ≡ length x + length s = omega arith in
@@ -34,8 +34,7 @@ unfolding earlier
 earlier-sum m k = omega arith
 
 -- a block that is padded gives back its bytes
-pub take-padded : (x : List ℕ) (n : ℕ) → length x ≡ n → take n (padded x) ≡ x
-unfolding padded
+pub take-padded : (x : List ℕ) (n : ℕ) → length x ≡ n → take n (padded 64 x) ≡ x
 take-padded x n e = take-at x _ n e
 
 pub total-bound : (c : Context) → total c ≤ c .message + 64
@@ -89,7 +88,7 @@ module _ (c : Context) (long : length (c .block) ≡ 64) where
         _≡_ {A = Context}
         record {
           h = c .h;
-          block = paste (padded (waiting c)) n s (length s);
+          block = paste (padded 64 (waiting c)) n s (length s);
           message = c .message + length s;
           keyed = c .keyed;
           size = c .size;
@@ -106,8 +105,8 @@ module _ (c : Context) (long : length (c .block) ≡ 64) where
     pub extended-long : (n room : ℕ) (rest : List ℕ) → done c + n ≡ total c → n ≤ 64 → room ≡ 64 - n → room < length s → rest ≡ drop room s →
         _≡_ {A = Context}
         record {
-          h = after (earlier (length rest)) (F (c .h) (words (paste (padded (waiting c)) n (take room s) (length (take room s)))) (total c + room) false) (total c + room) rest;
-          block = padded (drop (64 * earlier (length rest)) rest);
+          h = after (earlier (length rest)) (F (c .h) (words (paste (padded 64 (waiting c)) n (take room s) (length (take room s)))) (total c + room) false) (total c + room) rest;
+          block = padded 64 (drop (64 * earlier (length rest)) rest);
           message = c .message + length s;
           keyed = c .keyed;
           size = c .size;
@@ -124,7 +123,7 @@ module _ (c : Context) (long : length (c .block) ≡ 64) where
         let z : earlier (length d) ≡ suc m = omega arith in
         let q : 64 ≡ length (waiting c) + room = omega arith in
         let full : length (waiting c ++ take room s) ≡ 64 = rw (length-append, w, a) (omega arith) in
-        let u : paste (padded (waiting c)) n (take room s) (length (take room s)) ≡ blockAt d 0 =
+        let u : paste (padded 64 (waiting c)) n (take room s) (length (take room s)) ≡ blockAt d 0 =
         paste-padded (waiting c) (take room s) n w (omega arith) ∙ padded-full (waiting c ++ take room s) full
         ∙ rw (block-full d 0 (omega arith)) (rw (q, take-append-add (waiting c) s room)) in
         let v : drop 64 d ≡ rest = rw (q, drop-append-add (waiting c) s room) (sym p) in
@@ -132,5 +131,5 @@ module _ (c : Context) (long : length (c .block) ≡ 64) where
         let g = last-fits (length rest) in
         let y : blockAt rest m ≡ blockAt d (suc m) =
         ap (λ (x : List ℕ). blockAt x m) (sym v) ∙ block-behind d 1 m ∙ ap (λ (i : ℕ). blockAt d i) (sym (suc-is m)) in
-        let x : padded (drop (64 * m) rest) ≡ blockAt d (suc m) = sym (block-last rest m (g .1)) ∙ y in
+        let x : padded 64 (drop (64 * m) rest) ≡ blockAt d (suc m) = sym (block-last rest m (g .1)) ∙ y in
         rw (u, t, x, z, after-suc (c .h) (done c) d m, v)

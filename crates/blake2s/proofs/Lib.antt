@@ -1,4 +1,3 @@
-pub mod Lists
 pub mod Table
 pub mod Orders
 pub mod Vectors

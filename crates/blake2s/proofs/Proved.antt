@@ -8,14 +8,16 @@ use lib.Dec.{eqb}
 use lib.ListN.{length, getD, take, drop, length-append, length-drop}
 use lib.Seq.{getD-at, take-all}
 use borrow.Author.Tests.{ne-eqb}
-use Rattle.blake2s.specs.Rfc7693.{each, rotr, word, words, bytes, iv, sigma, added, xorRotated, G, workVector, round, rounds, F, padded, input, blockAt, blockCount, Compression, leading, compressions, compressed, initial, blake2s}
+use Rattle.endian.specs.Lists.{each, padded}
+use Rattle.blake2s.specs.Rfc7693.{rotr, words, iv, sigma, added, xorRotated, G, workVector, round, rounds, F, input, blockAt, blockCount, Compression, leading, compressions, compressed, initial, blake2s}
+use Rattle.endian.specs.Endian.{word, firstBytes}
 use Rattle.blake2s.specs.Hash.{numberOf, hashNumber, hashOutput}
 use Rattle.blake2s.specs.Stream.{earlier, begun, extended, inRange, beginNumber, beginContext, updateNumber, updateContext, finishNumber, finishOutput, refusedContext}
 use Rattle.blake2s.specs.Theorems.{message, Examples, printed, Trace, Hashing, Streamed, Streaming, run, numbers, joined}
 use Rattle.blake2s.specs.declared.Context.{Context}
 use Rattle.blake2s.specs.declared.Answer.{Answer}
 use Rattle.blake2s.specs.declared.Answer.the-variants.{Accepted, ContextRange, OutputLength, KeyLength, MessageLength}
-use Rattle.blake2s.proofs.Lists.{length-each}
+use Rattle.endian.proofs.Lists.{length-each}
 use Rattle.blake2s.proofs.Orders.{order-length, order-once, over-table}
 use Rattle.blake2s.proofs.Vectors.{laid-out}
 use Rattle.blake2s.proofs.Blocks.{block-full}
@@ -24,7 +26,7 @@ use Rattle.blake2s.proofs.Streams.{length-input, blocks, calls, in-part
 use Rattle.blake2s.proofs.Sessions.{begun-nil, at-range, runs}
 
 pub examples : Examples
-unfolding rotr word words bytes iv sigma added xorRotated G workVector round rounds F padded input blockAt blockCount leading compressions compressed initial blake2s
+unfolding rotr word words firstBytes iv sigma added xorRotated G workVector round rounds F input blockAt blockCount leading compressions compressed initial blake2s
 examples = record { abc = refl; keyed = refl }
 
 -- the vectors of the rounds, each made from the one before, so that no round is computed twice
@@ -37,12 +39,12 @@ unfolding rounds vectors
 after-rounds m [] v = refl
 after-rounds m (s ∷ ss) v = ap (λ (l : List (List ℕ)). v ∷ l) (after-rounds m ss (round m s v))
 
-as-printed : vectors (words (padded message)) sigma (workVector (initial 0 32) 3 true) ≡ printed
-unfolding rotr word words iv sigma added xorRotated G workVector round padded initial vectors printed
+as-printed : vectors (words (padded 64 message)) sigma (workVector (initial 0 32) 3 true) ≡ printed
+unfolding rotr word words iv sigma added xorRotated G workVector round initial vectors printed
 as-printed = refl
 
 pub trace : Trace
-unfolding rotr word words iv sigma added xorRotated G workVector round rounds F padded input blockAt blockCount leading compressions initial
+unfolding rotr word words iv sigma added xorRotated G workVector round rounds F input blockAt blockCount leading compressions initial
 trace = record { call = refl; m = refl; v = after-rounds _ sigma _ ∙ as-printed; h = refl }
 
 module _ (key msg : List ℕ) (fits : length key ≤ 32) where

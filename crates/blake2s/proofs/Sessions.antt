@@ -8,7 +8,8 @@ use native.Mathlib.Omega.{arith}
 use lib.Dec.{ltb, eqb}
 use lib.ListN.{length, getD, length-append}
 use borrow.Author.Tests.{ltb-true, ltb-false}
-use Rattle.blake2s.specs.Rfc7693.{padded, input, blockAt}
+use Rattle.endian.specs.Lists.{padded}
+use Rattle.blake2s.specs.Rfc7693.{input, blockAt}
 use Rattle.blake2s.specs.Hash.{kept}
 use Rattle.blake2s.specs.Stream.{earlier, begun, extended, inRange, updateNumber, updateContext}
 use Rattle.blake2s.specs.Theorems.{run, numbers, joined}
@@ -18,12 +19,12 @@ use Rattle.blake2s.proofs.Numbers.{size-range, update-message, update-a
 use Rattle.blake2s.proofs.Streams.{begun-waits, begun-long, length-input, in-parts, stream-size}
 
 -- the block of the key alone
-key-block : (key : List ℕ) → length key ≤ 32 → blockAt (input key []) 0 ≡ padded key
+key-block : (key : List ℕ) → length key ≤ 32 → blockAt (input key []) 0 ≡ padded 64 key
 unfolding input
 key-block [] h = block-last [] 0 (omega arith)
 key-block (k ∷ ks) h =
-    let l : length (padded (k ∷ ks)) ≡ 64 = length-padded (k ∷ ks) (omega arith) in
-    rw (append-nil, block-last (padded (k ∷ ks)) 0 (omega arith), padded-full (padded (k ∷ ks)) l)
+    let l : length (padded 64 (k ∷ ks)) ≡ 64 = length-padded (k ∷ ks) (omega arith) in
+    rw (append-nil, block-last (padded 64 (k ∷ ks)) 0 (omega arith), padded-full (padded 64 (k ∷ ks)) l)
 
 key-fits : (key : List ℕ) → length key ≤ 32 → length (input key []) ≤ 64
 key-fits key h = rw (length-input key [] h) (go (eqb (length key) 0))

@@ -9,10 +9,11 @@ use lib.Dec.{eqb}
 use lib.ListN.{length, drop, length-append, length-drop}
 use lib.Seq.{drop-append-le, take-all}
 use borrow.Author.Tests.{ne-eqb, eqb-true, eqb-false}
-use Rattle.blake2s.specs.Rfc7693.{padded, input, blockAt, blockCount, leading, compressions, compressed, initial, blake2s}
+use Rattle.endian.specs.Lists.{padded}
+use Rattle.blake2s.specs.Rfc7693.{input, blockAt, blockCount, leading, compressions, compressed, initial, blake2s}
 use Rattle.blake2s.specs.Stream.{earlier, total, done, waiting, begun, extended, closed}
 use Rattle.blake2s.specs.declared.Context.{Context}
-use Rattle.blake2s.proofs.Lists.{foldl-snoc}
+use Rattle.endian.proofs.Lists.{foldl-snoc}
 use Rattle.blake2s.proofs.Blocks.{length-padded, block-last, block-behind, after, after-split}
 use Rattle.blake2s.proofs.Contexts.{last-fits, earlier-sum, total-extended, done-extended, waiting-extended}
 
@@ -57,8 +58,8 @@ unfolding waiting begun input
 begun-waits [] msg nn h = rw (begun-total [] nn, begun-done [] nn)
 begun-waits (k ∷ ks) msg nn h =
     let e : eqb (length (k ∷ ks)) 0 ≡ false = ne-eqb (length (k ∷ ks)) 0 (λ z. omega arith) in
-    let l : length (padded (k ∷ ks)) ≡ 64 = length-padded (k ∷ ks) (omega arith) in
-    rw (begun-total (k ∷ ks) nn, begun-done (k ∷ ks) nn, e) (ap (λ (x : List ℕ). x ++ msg) (take-all 64 (padded (k ∷ ks)) (omega arith)))
+    let l : length (padded 64 (k ∷ ks)) ≡ 64 = length-padded (k ∷ ks) (omega arith) in
+    rw (begun-total (k ∷ ks) nn, begun-done (k ∷ ks) nn, e) (ap (λ (x : List ℕ). x ++ msg) (take-all 64 (padded 64 (k ∷ ks)) (omega arith)))
 
 -- the input's length is the counter of the last call,
 pub length-input : (key msg : List ℕ) → length key ≤ 32 → length (input key msg) ≡ cond (eqb (length key) 0) (length msg) (length msg + 64)
@@ -66,7 +67,7 @@ unfolding input
 length-input [] msg h = refl
 length-input (k ∷ ks) msg h =
     let e : eqb (length (k ∷ ks)) 0 ≡ false = ne-eqb (length (k ∷ ks)) 0 (λ z. omega arith) in
-    let l : length (padded (k ∷ ks)) ≡ 64 = length-padded (k ∷ ks) (omega arith) in
+    let l : length (padded 64 (k ∷ ks)) ≡ 64 = length-padded (k ∷ ks) (omega arith) in
     rw (e, length-append, l) (omega arith)
 
 -- and one block more than those before the final one is the number of blocks of RFC 7693
@@ -122,5 +123,5 @@ module _ (key msg : List ℕ) (nn : ℕ) (fits : length key ≤ 32) where
       let j : waiting c ++ msg ≡ d = begun-waits key msg nn fits in
       let w : waiting (extended c msg) ≡ drop (64 * n) d = rw j at (waiting-extended c begun-long msg) in
       let t : total (extended c msg) ≡ length d = total-extended c begun-long msg ∙ begun-sum in
-      let b : padded (drop (64 * n) d) ≡ blockAt d n = sym (block-last d n (last-fits (length d) .1)) in
+      let b : padded 64 (drop (64 * n) d) ≡ blockAt d n = sym (block-last d n (last-fits (length d) .1)) in
       rw (w, t, b, calls key msg fits, foldl-snoc, stream-state, stream-size)

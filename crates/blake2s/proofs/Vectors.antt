@@ -1,12 +1,13 @@
--- The work vector, written out as the code makes it, and a turn of the loop that writes a state's bytes.
+-- The work vector, written out as the code makes it.
 use mathlib.Core.Path.{_≡_, refl, subst}
 use mathlib.Core.Bool.{Bool, true, false, cond}
 use mathlib.Core.List.{List, [], _∷_, _++_}
-use Prim.Native.Nat.{ℕ, _+_, _*_, _/_, _%_, _^_, _<_}
-use lib.ListN.{length, getD, set, take, drop}
+use Prim.Native.Nat.{ℕ, _+_, _/_, _%_, _^_}
+use lib.ListN.{length, getD}
 use lib.Bits.{bitXor}
-use Rattle.blake2s.specs.Rfc7693.{each, iv, bytes, workVector}
-use Rattle.blake2s.proofs.Lists.{each-of, length-each, getD-each, copy-more}
+use Rattle.endian.specs.Lists.{each}
+use Rattle.blake2s.specs.Rfc7693.{iv, workVector}
+use Rattle.endian.proofs.Lists.{each-of}
 
 abbrev pub laidOut : List ℕ → ℕ → Bool → List ℕ
 laidOut h t f =
@@ -21,10 +22,3 @@ laid-out h t f e = subst (λ (l : List ℕ). laidOut l t f ≡ workVector l t f)
     go : (f : Bool) → laidOut (each 8 (λ i. getD h i 0)) t f ≡ workVector (each 8 (λ i. getD h i 0)) t f
     go true = refl
     go false = refl
-
-pub bytes-more : (h out : List ℕ) (i : ℕ) → i < length out → i < 32
-    → set (take i (bytes h) ++ drop i out) i (getD h (i / 4) 0 / 2 ^ (8 * (i % 4)) % 2 ^ 8) ≡ take (i + 1) (bytes h) ++ drop (i + 1) out
-unfolding bytes
-bytes-more h out i ho hi =
-    let l : i < length (bytes h) = rw length-each hi in
-    rw (← getD-each 32 (λ i. getD h (i / 4) 0 / 2 ^ (8 * (i % 4)) % 2 ^ 8) 0 i hi) (copy-more out (bytes h) i ho l)

@@ -1,17 +1,14 @@
 -- BLAKE2s after RFC 7693, in the RFC's order and with its letters. An array is a list, a word a number below 2**32, a byte one below 2**8.
 -- Comments have the RFC's signs: its 2**n is `2 ^ n` here, its a ^ b is `bitXor a b`, its a mod b is `a % b` and its v[i] is `getD v i 0`.
-use Prim.Native.Nat.{ℕ, zero, suc, _+_, _-_, _*_, _/_, _%_, _^_}
+use Prim.Native.Nat.{ℕ, _+_, _-_, _*_, _/_, _%_, _^_}
 use mathlib.Core.Path.{_≡_}
 use mathlib.Core.Bool.{Bool, true, false, cond}
 use mathlib.Core.List.{List, [], _∷_, _++_, foldl}
 use lib.Dec.{eqb}
-use lib.ListN.{length, getD, set, take, drop, replicate}
+use lib.ListN.{length, getD, set, take, drop}
 use lib.Bits.{bitXor}
-
--- the array f(0), f(1), .., f(n - 1)
-abbrev pub each : {A : Type 0} → ℕ → (ℕ → A) → List A
-each zero f = []
-each (suc n) f = f 0 ∷ each n (λ i. f (suc i))
+use Rattle.endian.specs.Lists.{each, padded}
+use Rattle.endian.specs.Endian.{word, bytes}
 
 -- 2.1: BLAKE2s has words of w bits, blocks of bb bytes and the rotations R1 to R4. It has r = 10 rounds, one for each row of
 -- SIGMA. The ranges of nn, kk and ll, the bytes of hash, key and message, are in Hash.antt
@@ -49,17 +46,9 @@ shl x n = x * 2 ^ n % 2 ^ w
 unfoldable pub rotr : ℕ → ℕ → ℕ
 rotr x n = bitXor (shr x n) (shl x (w - n))
 
--- 2.4: the word that the bytes x[i..i+3] give, the least significant first
-unfoldable pub word : List ℕ → ℕ → ℕ
-word x i = getD x i 0 + getD x (i + 1) 0 * 2 ^ 8 + getD x (i + 2) 0 * 2 ^ 16 + getD x (i + 3) 0 * 2 ^ 24
-
 -- 2.4: the sixteen words m[0..15] of a block of bytes
 unfoldable pub words : List ℕ → List ℕ
 words x = each 16 (λ i. word x (4 * i))
-
--- 2.4: the 32 bytes of the words h[0..7], the least significant of each first
-unfoldable pub bytes : List ℕ → List ℕ
-bytes h = each 32 (λ i. getD h (i / 4) 0 / 2 ^ (8 * (i % 4)) % 2 ^ 8)
 
 -- 2.6: the initialization vector IV, by the values of appendix D
 unfoldable pub iv : List ℕ
@@ -158,18 +147,14 @@ F h m t f =
     let v = rounds m sigma (workVector h t f) in
     each 8 (λ i. bitXor (bitXor (getD h i 0) (getD v i 0)) (getD v (i + 8) 0))
 
--- 3.3: x padded with zeros to bb bytes
-unfoldable pub padded : List ℕ → List ℕ
-padded x = x ++ replicate (bb - length x) 0
-
 -- 3.3: the bytes of d[0..dd-1] on end, but for the padding of the final block: a key, padded, is d[0], and the message follows
 unfoldable pub input : List ℕ → List ℕ → List ℕ
 input [] msg = msg
-input (k ∷ ks) msg = padded (k ∷ ks) ++ msg
+input (k ∷ ks) msg = padded bb (k ∷ ks) ++ msg
 
 -- 3.3: the block d[i], where d is given as those bytes; the final one is padded, and where there are none d[0] is all zeros
 unfoldable pub blockAt : List ℕ → ℕ → List ℕ
-blockAt d i = padded (take bb (drop (bb * i) d))
+blockAt d i = padded bb (take bb (drop (bb * i) d))
 
 -- 3.3: the number dd of blocks, for a key of kk and a message of ll bytes: 1 where kk = 0 and ll = 0
 unfoldable pub blockCount : ℕ → ℕ → ℕ

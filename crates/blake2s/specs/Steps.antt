@@ -3,7 +3,8 @@ use Prim.Native.Nat.{ℕ, _+_, _*_, _<_}
 use mathlib.Core.Bool.{Bool}
 use mathlib.Core.List.{List, foldl}
 use lib.ListN.{getD}
-use Rattle.blake2s.specs.Rfc7693.{each, bb, mixing, blockAt, compressed}
+use Rattle.endian.specs.Lists.{each}
+use Rattle.blake2s.specs.Rfc7693.{bb, mixing, blockAt, compressed}
 
 -- each of the n numbers of s is the place of one of sixteen words: an order has 16 places in the message, a row 4 in the working vector
 pub record Places (n : ℕ) (s : List ℕ) : Type 0 where

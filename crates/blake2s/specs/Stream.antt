@@ -5,7 +5,9 @@ use mathlib.Core.Bool.{Bool, true, false, cond, not}
 use mathlib.Core.List.{List, _++_}
 use lib.Dec.{eqb}
 use lib.ListN.{length, take, replicate}
-use Rattle.blake2s.specs.Rfc7693.{bb, bytes, words, F, padded, blockAt, leading, compressed, initial}
+use Rattle.blake2s.specs.Rfc7693.{bb, words, F, blockAt, leading, compressed, initial}
+use Rattle.endian.specs.Endian.{bytes}
+use Rattle.endian.specs.Lists.{padded}
 use Rattle.blake2s.specs.Hash.{badSize, tooLong, kept, hashNumber}
 use Rattle.blake2s.specs.declared.Context.{Context}
 
@@ -30,7 +32,7 @@ unfoldable pub begun : List ℕ → ℕ → Context
 begun key nn =
     record {
       h = initial (length key) nn;
-      block = padded key;
+      block = padded 64 key;
       message = 0;
       keyed = not (eqb (length key) 0);
       size = nn;
@@ -51,7 +53,7 @@ extended c s =
 
 -- the hash: what waits is the final block
 unfoldable pub closed : Context → List ℕ
-closed c = take (c .size) (bytes (F (c .h) (words (padded (waiting c))) (total c) true))
+closed c = take (c .size) (bytes (F (c .h) (words (padded 64 (waiting c))) (total c) true))
 
 -- the range of a context's fields: its size is that of a hash, and every other field may hold anything
 unfoldable pub inRange : Context → Bool

@@ -7,7 +7,8 @@ use mathlib.Core.Logic.{_↔_}
 use lib.Dec.{eqb}
 use lib.ListN.{length, getD, take, drop}
 use lib.Bits.{bitXor}
-use Rattle.blake2s.specs.Rfc7693.{each, bb, ceil, words, iv, sigma, workVector, TableRound, rounds, F, padded, input, Compression, leading, compressions, initial, blake2s}
+use Rattle.endian.specs.Lists.{each, padded}
+use Rattle.blake2s.specs.Rfc7693.{bb, ceil, words, iv, sigma, workVector, TableRound, rounds, F, input, Compression, leading, compressions, initial, blake2s}
 use Rattle.blake2s.specs.Hash.{numberOf, kept, hashNumber, hashOutput}
 use Rattle.blake2s.specs.Stream.{inRange, beginNumber, beginContext, updateNumber, updateContext, finishNumber, finishOutput}
 use Rattle.blake2s.specs.declared.Answer.{Answer}
@@ -83,13 +84,13 @@ printed =
 -- what appendix B prints of the hash on the way, computed from the definition
 pub record Trace : Type 0 where
   -- F is called once, with t = 3 and f = TRUE
-  pub call : compressions [] message ≡ record { block = padded message; counter = 3; last = true } ∷ []
-  pub m : words (padded message) ≡
+  pub call : compressions [] message ≡ record { block = padded 64 message; counter = 3; last = true } ∷ []
+  pub m : words (padded 64 message) ≡
       0x00636261 ∷ 0x00000000 ∷ 0x00000000 ∷ 0x00000000 ∷ 0x00000000 ∷ 0x00000000 ∷
       0x00000000 ∷ 0x00000000 ∷ 0x00000000 ∷ 0x00000000 ∷ 0x00000000 ∷ 0x00000000 ∷
       0x00000000 ∷ 0x00000000 ∷ 0x00000000 ∷ 0x00000000 ∷ []
-  pub v : each 11 (λ i. rounds (words (padded message)) (take i sigma) (workVector (initial 0 32) 3 true)) ≡ printed
-  pub h : F (initial 0 32) (words (padded message)) 3 true ≡
+  pub v : each 11 (λ i. rounds (words (padded 64 message)) (take i sigma) (workVector (initial 0 32) 3 true)) ≡ printed
+  pub h : F (initial 0 32) (words (padded 64 message)) 3 true ≡
       0x8C5E8C50 ∷ 0xE2147C32 ∷ 0xA32BA7E1 ∷ 0x2F45EB4E ∷ 0x208B4537 ∷ 0x293AD69E ∷
       0x4C9B994D ∷ 0x82596786 ∷ []
 

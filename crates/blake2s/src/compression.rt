@@ -6,7 +6,8 @@ ghost use Prim.Native.Nat.{_+_, _*_, _%_, _^_, _<_, _≤_};
 ghost use mathlib.Core.Bool.{cond};
 ghost use lib.ListN.{getD, length};
 ghost use lib.Bits.{bitXor};
-ghost use Rattle.blake2s.specs.Rfc7693.{sigma, rotr, added, xorRotated, G, selected, rounds, word, words, workVector, F};
+ghost use Rattle.blake2s.specs.Rfc7693.{sigma, rotr, added, xorRotated, G, selected, rounds, words, workVector, F};
+ghost use Rattle.endian.specs.Endian.{word};
 ghost use Rattle.blake2s.specs.Steps.{Places, fourMixings};
 
 // RFC 7693, 2.6.
@@ -189,18 +190,11 @@ fn rounds(v: [u32; 16], m: &[u32; 16]) -> [u32; 16]
     diagonal_step(m, s[9], column_step(m, s[9], v9))
 }
 
-// RFC 7693, 2.4: a word of four bytes, lowest first.
-fn le4(a: u8, b: u8, c: u8, d: u8) -> u32
-    ensures { λ r. ⌜ r ≡ a + b * 2 ^ 8 + c * 2 ^ 16 + d * 2 ^ 24 ⌝ }
-{
-    (a as u32) + (b as u32) * 256 + (c as u32) * 65536 + (d as u32) * 16777216
-}
-
 fn read_word(b: &[u8], i: usize) -> u32
     requires { ⌜ i + 4 ≤ length (now b) ⌝ }
     ensures { λ r. ⌜ r ≡ word (now (b .entry)) i ⌝ }
 {
-    le4(b[i], b[i + 1], b[i + 2], b[i + 3])
+    endian::word(b[i], b[i + 1], b[i + 2], b[i + 3])
 }
 
 // The message words of a block.

@@ -3,10 +3,11 @@ use super::Context;
 use super::compression::IV;
 use super::compression::compress;
 ghost use mathlib.Core.Path.{_≡_};
-ghost use Prim.Native.Nat.{_+_, _*_, _/_, _%_, _^_, _<_, _≤_};
+ghost use Prim.Native.Nat.{_+_, _*_, _/_, _^_, _<_, _≤_};
 ghost use lib.Seq.{paste};
-ghost use lib.ListN.{getD, length, take};
-ghost use Rattle.blake2s.specs.Rfc7693.{bytes, padded, initial};
+ghost use lib.ListN.{length};
+ghost use Rattle.endian.specs.Lists.{padded};
+ghost use Rattle.blake2s.specs.Rfc7693.{initial};
 ghost use Rattle.blake2s.specs.Steps.{compressedBlocks};
 ghost use Rattle.blake2s.specs.Stream.{earlier, total, done, waiting, begun, extended, closed, inRange};
 
@@ -57,7 +58,7 @@ fn append(b: [u8; 64], at: usize, s: &[u8]) -> [u8; 64]
 // A block: s, filled up with zeros.
 fn pad(s: &[u8]) -> [u8; 64]
     requires { ⌜ length (now s) ≤ 64 ⌝ }
-    ensures { λ r. ⌜ r ≡ padded (now (s .entry)) ⌝ }
+    ensures { λ r. ⌜ r ≡ padded 64 (now (s .entry)) ⌝ }
 {
     append([0; 64], 0, s)
 }
@@ -87,7 +88,7 @@ fn fill(c: Context) -> usize
 
 // The block that waits, filled up with zeros.
 fn waiting_block(c: Context) -> [u8; 64]
-    ensures { λ r. ⌜ r ≡ padded (waiting c) ⌝ }
+    ensures { λ r. ⌜ r ≡ padded 64 (waiting c) ⌝ }
 {
     let block = c.block;
     let n = fill(c);
@@ -178,34 +179,6 @@ pub fn extended(c: Context, s: &[u8]) -> Context
     }
 }
 
-// The byte of a word that starts at bit k.
-fn byte_of(w: u32, k: u32) -> u8
-    requires { ⌜ k ≤ 24 ⌝ }
-    ensures { λ r. ⌜ r ≡ w / 2 ^ k % 2 ^ 8 ⌝ }
-{
-    ((w >> k) % 256) as u8
-}
-
-// Byte i of a state.
-fn byte_at(h: &[u32; 8], i: usize) -> u8
-    requires { ⌜ i < 32 ⌝ }
-    ensures { λ r. ⌜ r ≡ getD (now (h .entry)) (i / 4) 0 / 2 ^ (8 * (i % 4)) % 2 ^ 8 ⌝ }
-{
-    byte_of(h[i / 4], (8 * (i % 4)) as u32)
-}
-
-// The first bytes of a state, as many as out has.
-fn write_bytes(h: &[u32; 8], out: &mut [u8])
-    requires { ⌜ length (now out) ≤ 32 ⌝ }
-    ensures { λ _. ⌜ now (out .exit) ≡ take (length (now (out .entry))) (bytes (now (h .entry))) ⌝ }
-{
-    let mut i: usize = 0;
-    while i < out.len() {
-        out[i] = byte_at(h, i);
-        i = i + 1;
-    }
-}
-
 // The hash: what waits is the final block.
 pub fn closed(c: Context, out: &mut [u8])
     requires { ⌜ (length (now out) ≡ c .size) × (c .size ≤ 32) ⌝ }
@@ -214,5 +187,5 @@ pub fn closed(c: Context, out: &mut [u8])
     let h = c.h;
     let last = waiting_block(c);
     let end = compress_blocks(h, bytes_in(c), &last, 1, true);
-    write_bytes(&end, out);
+    endian::write_bytes(&end, out);
 }

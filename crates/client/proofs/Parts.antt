@@ -9,17 +9,18 @@ use lib.Dec.{leb}
 use lib.ListN.{length, take, drop, set, replicate}
 use lib.Seq.{take-all}
 use borrow.Author.Tests.{leb-true, leb-false}
-use Rattle.blake2s.proofs.Lists.{copied, drop-replicate}
-use Rattle.protocol.specs.Replies.{filled, putIn}
+use Rattle.endian.proofs.Lists.{copied, drop-replicate}
+use Rattle.endian.specs.Lists.{padded}
+use Rattle.protocol.specs.Replies.{putIn}
 
 -- the first k of zeros overwritten by as many bytes
 pub over-zeros : (s : List ℕ) (k n : ℕ) → length s ≡ k
-    → (take (length s) s ++ drop (length s) (take k (replicate n 0))) ++ drop k (replicate n 0) ≡ filled n s
+    → (take (length s) s ++ drop (length s) (take k (replicate n 0))) ++ drop k (replicate n 0) ≡ padded n s
 over-zeros s k n e = rw (copied s (replicate n 0) k e, drop-replicate, e)
 
 -- and after a command byte
 pub after-command : (c : ℕ) (s : List ℕ) (k : ℕ) → length s ≡ k
-    → c ∷ ((take (length s) s ++ drop (length s) (take k (replicate 127 0))) ++ drop k (replicate 127 0)) ≡ filled 128 (c ∷ s)
+    → c ∷ ((take (length s) s ++ drop (length s) (take k (replicate 127 0))) ++ drop k (replicate 127 0)) ≡ padded 128 (c ∷ s)
 after-command c s k e = ap (λ (x : List ℕ). c ∷ x) (over-zeros s k 127 e) ∙ rw (suc-sub-suc 127 (length s))
 
 -- as many bytes as there are, of 127

@@ -11,7 +11,8 @@ use borrow.Author.Tests.{eq-eqb, ne-eqb, eqb-true, eqb-false, le-leb, leb-true, 
 use Rattle.framing.specs.Header.{Reading, good, stop, headerAt, headerByte}
 use Rattle.framing.proofs.Headers.{headers, fields-of}
 use Rattle.protocol.specs.Commands.{firmware, blocksFor, isLast}
-use Rattle.protocol.specs.Replies.{written, replyHeader, filled, sent, loadReply, blockReply, digestReply}
+use Rattle.protocol.specs.Replies.{written, replyHeader, sent, loadReply, blockReply, digestReply}
+use Rattle.endian.specs.Lists.{padded}
 use Rattle.protocol.proofs.Proved.{header-of}
 use Rattle.client.specs.Answers.{numberOf}
 use Rattle.client.specs.Frames.{refusal, secretOf, commandHeader, sizeBytes, loadBody, blockBody, commandBody, commandFrame}
@@ -50,14 +51,14 @@ not-refused n id k g = rw (le-leb 1 n (g .some), le-leb n 131072 (g .small), le-
 
 -- ---- frames
 
-filled-length : (n : ℕ) (l : List ℕ) → length l ≤ n → length (filled n l) ≡ n
+filled-length : (n : ℕ) (l : List ℕ) → length l ≤ n → length (padded n l) ≡ n
 filled-length n l h = rw (length-append, length-replicate) (omega arith)
 
 body-length : (program : List ℕ) (s : Secret) (k : ℕ) → length (s .uss) ≡ 32 → length (commandBody program s k) ≡ 128
 unfolding loadBody blockBody
 body-length program s k l = go (eqb k 0) (s .used)
   where
-    go : (a u : Bool) → length (cond a (filled 128 (0x03 ∷ sizeBytes (length program) ++ cond u (1 ∷ s .uss) (0 ∷ []))) (blockBody program (k - 1))) ≡ 128
+    go : (a u : Bool) → length (cond a (padded 128 (0x03 ∷ sizeBytes (length program) ++ cond u (1 ∷ s .uss) (0 ∷ []))) (blockBody program (k - 1))) ≡ 128
     go true true = filled-length 128 (0x03 ∷ sizeBytes (length program) ++ 1 ∷ s .uss) (omega arith)
     go true false = refl
     go false u = filled-length 128 (0x05 ∷ take 127 (drop (127 * (k - 1)) program)) (let t = length-take 127 (drop (127 * (k - 1)) program) in omega arith)
@@ -154,16 +155,16 @@ module _ (x : Expected) (f : Fits x) (id : ℕ) (small : id ≤ 3) (r : List ℕ
       )
       filler-after
 
-  taken : takenAs x id r ≡ takingAs 0 (e .status) (filled 32 (e .digest))
+  taken : takenAs x id r ≡ takingAs 0 (e .status) (padded 32 (e .digest))
   taken = rw (is-expected, e .bytes, digest-first)
 
 gives-as : (n id k : ℕ) (r : List ℕ) (x : Expected) → expectedReply n k ≡ x → refusal n id k ≡ 0 → (e : Expects x id r)
-    → taking n id k r ≡ takingAs 0 (e .status) (filled 32 (e .digest))
+    → taking n id k r ≡ takingAs 0 (e .status) (padded 32 (e .digest))
 unfolding taking
 gives-as n id k r x q z e = rw (z, q) (taken x (subst Fits q (expected-fits n k)) id (given n id k z .id-small) r e)
 
 gives : (n id k : ℕ) (r : List ℕ) → refusal n id k ≡ 0 → (e : Expects (expectedReply n k) id r)
-    → taking n id k r ≡ takingAs 0 (e .status) (filled 32 (e .digest))
+    → taking n id k r ≡ takingAs 0 (e .status) (padded 32 (e .digest))
 gives n id k r z e = gives-as n id k r (expectedReply n k) refl z e
 
 takes : (n id k : ℕ) (r : List ℕ) → getD r 0 0 < 2 ^ 8 → taking n id k r .number ≡ 0 → (refusal n id k ≡ 0) × Expects (expectedReply n k) id r
@@ -217,13 +218,13 @@ to-last n id k digest z l e s =
     (record { status = 0; digest = digest; status-small = omega arith; digest-length = s; bytes = as-sent })
     ∙ ap (λ (d : List ℕ). takingAs 0 0 d) whole
   where
-    as-sent : sent (digestReply (commandHeader id) digest) ≡ written (headerByte id firmware 128) ∷ filled 128 (0x07 ∷ 0 ∷ digest)
+    as-sent : sent (digestReply (commandHeader id) digest) ≡ written (headerByte id firmware 128) ∷ padded 128 (0x07 ∷ 0 ∷ digest)
     as-sent =
         let f = filled-length 128 (0x07 ∷ 0 ∷ digest) (omega arith) in
-        ap (λ (h : ℕ). h ∷ take 128 (filled 128 (0x07 ∷ 0 ∷ digest))) (reply-header id 128 (given n id k z .id-small))
-        ∙ ap (λ (y : List ℕ). written (headerByte id firmware 128) ∷ y) (take-all 128 (filled 128 (0x07 ∷ 0 ∷ digest)) (omega arith))
+        ap (λ (h : ℕ). h ∷ take 128 (padded 128 (0x07 ∷ 0 ∷ digest))) (reply-header id 128 (given n id k z .id-small))
+        ∙ ap (λ (y : List ℕ). written (headerByte id firmware 128) ∷ y) (take-all 128 (padded 128 (0x07 ∷ 0 ∷ digest)) (omega arith))
 
-    whole : filled 32 digest ≡ digest
+    whole : padded 32 digest ≡ digest
     whole = rw s (append-nil digest)
 
 pub client : Client

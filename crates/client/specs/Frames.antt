@@ -8,7 +8,8 @@ use lib.ListN.{length, take, drop}
 use Rattle.framing.specs.Header.{headerByte}
 use Rattle.endian.specs.Endian.{byteOf}
 use Rattle.protocol.specs.Commands.{firmware, blocksFor, placeOf}
-use Rattle.protocol.specs.Replies.{written, filled, putIn}
+use Rattle.protocol.specs.Replies.{written, putIn}
+use Rattle.endian.specs.Lists.{padded}
 use Rattle.client.specs.Answers.{numberOf}
 use Rattle.client.specs.declared.Answer.{Answer}
 use Rattle.client.specs.declared.Secret.{Secret}
@@ -43,11 +44,11 @@ abbrev pub secretBytes : Secret → List ℕ
 secretBytes s = cond (s .used) (1 ∷ s .uss) (0 ∷ [])
 
 unfoldable pub loadBody : ℕ → Secret → List ℕ
-loadBody n s = filled 128 (0x03 ∷ sizeBytes n ++ secretBytes s)
+loadBody n s = padded 128 (0x03 ∷ sizeBytes n ++ secretBytes s)
 
 -- block j carries the program bytes from its place on, 127 or as many as are left
 unfoldable pub blockBody : List ℕ → ℕ → List ℕ
-blockBody program j = filled 128 (0x05 ∷ take 127 (drop (placeOf j) program))
+blockBody program j = padded 128 (0x05 ∷ take 127 (drop (placeOf j) program))
 
 abbrev pub commandBody : List ℕ → Secret → ℕ → List ℕ
 commandBody program s k = cond (eqb k 0) (loadBody (length program) s) (blockBody program (k - 1))

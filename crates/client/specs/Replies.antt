@@ -6,7 +6,7 @@ use lib.Dec.{eqb, leb}
 use lib.ListN.{length, getD, take, drop, replicate}
 use Rattle.framing.specs.Header.{Reading, good, stop, headerAt}
 use Rattle.protocol.specs.Commands.{firmware, isLast}
-use Rattle.protocol.specs.Replies.{filled}
+use Rattle.endian.specs.Lists.{padded}
 use Rattle.client.specs.Answers.{numberOf}
 use Rattle.client.specs.Frames.{refusal}
 use Rattle.client.specs.declared.Taken.{Taken}
@@ -37,7 +37,7 @@ statusIn r = getD r 2 0
 
 -- zeros where no digest is expected
 abbrev pub digestIn : Expected → List ℕ → List ℕ
-digestIn x r = filled 32 (take (x .digest) (drop 3 r))
+digestIn x r = padded 32 (take (x .digest) (drop 3 r))
 
 abbrev pub fillerIn : Expected → List ℕ → List ℕ
 fillerIn x r = drop (x .digest) (drop 3 r)

@@ -7,7 +7,8 @@ use mathlib.Core.List.{List, [], _∷_, _++_}
 use lib.ListN.{length, getD, replicate}
 use Rattle.framing.specs.Header.{good, headerAt, headerByte}
 use Rattle.protocol.specs.Commands.{firmware, blocksFor, isLast}
-use Rattle.protocol.specs.Replies.{written, filled, sent, loadReply, blockReply, digestReply}
+use Rattle.protocol.specs.Replies.{written, sent, loadReply, blockReply, digestReply}
+use Rattle.endian.specs.Lists.{padded}
 use Rattle.client.specs.Answers.{numberOf}
 use Rattle.client.specs.Frames.{refusal, secretOf, commandHeader, commandFrame}
 use Rattle.client.specs.Replies.{expectedReply, takingAs, taking}
@@ -21,7 +22,7 @@ pub record Expects (x : Expected) (id : ℕ) (r : List ℕ) : Type 0 where
   pub digest : List ℕ
   pub status-small : status ≤ 1
   pub digest-length : length digest ≡ x .digest
-  pub bytes : r ≡ written (headerByte id firmware (x .len)) ∷ filled (x .len) (x .code ∷ status ∷ digest)
+  pub bytes : r ≡ written (headerByte id firmware (x .len)) ∷ padded (x .len) (x .code ∷ status ∷ digest)
 
 pub record Client : Type 0 where
   -- the number settles the answer
@@ -39,7 +40,7 @@ pub record Client : Type 0 where
   pub takes : (n id k : ℕ) (r : List ℕ) → getD r 0 0 < 2 ^ 8
       → (taking n id k r .number ≡ 0) ↔ ((refusal n id k ≡ 0) × Expects (expectedReply n k) id r)
   pub gives : (n id k : ℕ) (r : List ℕ) → refusal n id k ≡ 0 → (e : Expects (expectedReply n k) id r)
-      → taking n id k r ≡ takingAs 0 (e .status) (filled 32 (e .digest))
+      → taking n id k r ≡ takingAs 0 (e .status) (padded 32 (e .digest))
   -- so are the replies that `protocol` writes to these frames
   pub to-load : (n id : ℕ) (good : Bool) → refusal n id 0 ≡ 0
       → taking n id 0 (sent (loadReply (commandHeader id) good)) ≡ takingAs 0 (cond good 0 1) (replicate 32 0)

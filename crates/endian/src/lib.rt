@@ -1,15 +1,18 @@
-// Numbers of 32 bits as four bytes, lowest byte first.
+// Words of 32 bits as four bytes, lowest byte first.
 ghost use mathlib.Core.Path.{_≡_};
-ghost use Rattle.endian.specs.Endian.{numberFrom, byteOf};
+ghost use mathlib.Core.List.{[], _∷_};
+ghost use Prim.Native.Nat.{_/_, _%_};
+ghost use lib.ListN.{getD, length};
+ghost use Rattle.endian.specs.Endian.{word, byteOf, firstBytes};
 
-// The number of four bytes.
-pub fn number(a: u8, b: u8, c: u8, d: u8) -> u32
-    ensures { λ r. ⌜ r ≡ numberFrom a b c d ⌝ }
+// The word of four bytes.
+pub fn word(a: u8, b: u8, c: u8, d: u8) -> u32
+    ensures { λ r. ⌜ r ≡ word (a ∷ b ∷ c ∷ d ∷ []) 0 ⌝ }
 {
     (a as u32) + (b as u32) * 256 + (c as u32) * 65536 + (d as u32) * 16777216
 }
 
-// Byte i of a number; 0 from byte 4 on.
+// Byte i of a word; 0 from byte 4 on.
 pub fn byte(n: u32, i: usize) -> u8
     ensures { λ r. ⌜ r ≡ byteOf n i ⌝ }
 {
@@ -17,4 +20,27 @@ pub fn byte(n: u32, i: usize) -> u8
         return 0;
     }
     ((n >> (8 * (i as u32))) % 256) as u8
+}
+
+// Byte i of words, one after the other; 0 behind the last.
+fn byte_at(words: &[u32], i: usize) -> u8
+    ensures { λ r. ⌜ r ≡ byteOf (getD (now (words .entry)) (i / 4) 0) (i % 4) ⌝ }
+{
+    let at = i / 4;
+    if words.len() <= at {
+        return 0;
+    }
+    byte(words[at], i % 4)
+}
+
+// Writes the bytes of words, as many as out has.
+pub fn write_bytes(words: &[u32], out: &mut [u8])
+    ensures { λ _. ⌜ now (out .exit) ≡ firstBytes (length (now (out .entry))) (now (words .entry)) ⌝ }
+{
+    let mut i: usize = 0;
+    while i < out.len() {
+        let b = byte_at(words, i);
+        out[i] = b;
+        i += 1;
+    }
 }

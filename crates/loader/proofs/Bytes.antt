@@ -1,17 +1,16 @@
 -- Lists of bytes compared and copied.
-use Prim.Native.Nat.{ℕ, _*_, _/_, _%_, _^_, _<_, _≤_}
+use Prim.Native.Nat.{ℕ, _<_, _≤_}
 use mathlib.Core.Bool.{Bool, true, false, _&&_}
-use mathlib.Core.List.{List, [], _∷_, _++_, append-nil, append-assoc}
+use mathlib.Core.List.{List, [], _∷_, _++_, append-assoc}
 use mathlib.Core.Path.{_≡_, refl, sym}
 use native.Mathlib.Omega.{arith}
 use native.Mathlib.Nat.{add-comm}
 use native.Mathlib.Numerals.{add-one}
 use lib.Dec.{eqb}
-use lib.ListN.{length, getD, take, drop, set, length-take, drop-of-length-le}
+use lib.ListN.{length, take, drop, set, length-take}
 use lib.Seq.{paste, take-all, take-length, drop-drop}
 use borrow.Author.Tests.{eq-eqb, eqb-true}
-use Rattle.blake2s.specs.Rfc7693.{bytes}
-use Rattle.blake2s.proofs.Lists.{length-each, copied}
+use Rattle.endian.proofs.Lists.{copied}
 use Rattle.protocol.specs.Replies.{putIn}
 use Rattle.loader.specs.State.{same}
 
@@ -55,13 +54,3 @@ paste-part d s at k n e h =
     let l : length (take n s) ≡ n = rw length-take (omega arith) in
     let t : take n (take n s) ≡ take n s = take-all n (take n s) (omega arith) in
     rw (e, l, t)
-
--- all bytes of the eight words
-pub bytes-length : (h : List ℕ) → length (bytes h) ≡ 32
-unfolding bytes
-bytes-length h = length-each 32 (λ i. getD h (i / 4) 0 / 2 ^ (8 * (i % 4)) % 2 ^ 8)
-
-pub all-bytes : (h d : List ℕ) → length d ≡ 32 → take 32 (bytes h) ++ drop 32 d ≡ bytes h
-all-bytes h d e =
-    let l = bytes-length h in
-    rw (take-all 32 (bytes h) (omega arith), drop-of-length-le d {i = 32} (omega arith), append-nil)

@@ -5,7 +5,7 @@ use mathlib.Core.List.{List, _∷_, _++_}
 use lib.ListN.{length, take, replicate}
 use lib.Seq.{take-append-add}
 use Rattle.framing.specs.Header.{headerByte}
-use Rattle.blake2s.specs.Rfc7693.{word}
+use Rattle.endian.specs.Endian.{word}
 use Rattle.protocol.specs.Commands.{loadIn}
 use Rattle.protocol.specs.Replies.{replyHeader, sent, nameReply, udiReply, loadReply, blockReply, digestReply}
 use Rattle.record.specs.Record.{recordAt}

@@ -9,7 +9,8 @@ use lib.ListN.{length, drop}
 use lib.Seq.{drop-at}
 use lib.Dec.{eqb}
 use borrow.Author.Tests.{ne-eqb, eq-eqb, eqb-true, eqb-false, le-leb}
-use Rattle.loader.specs.State.{zeros, incomingOk, progressOk, ramOk, inRange, live, ended}
+use Rattle.endian.specs.Lists.{zeros}
+use Rattle.loader.specs.State.{incomingOk, progressOk, ramOk, inRange, live, ended}
 use Rattle.loader.specs.Answers.{refused, continues, stopped, started, refusalNumber, stopNumber, reportOf, Outcome}
 use Rattle.loader.specs.Begin.{Beginning, ending, waitingWith, configOf, byType, beginning}
 use Rattle.loader.specs.Machine.{starting, refusal, refusing, step}

@@ -6,7 +6,8 @@ use mathlib.Core.List.{List}
 use lib.Dec.{eqb}
 use lib.ListN.{length}
 use Rattle.record.specs.Record.{Contents, recordAt}
-use Rattle.loader.specs.State.{zeros, ramOk, idle, ended}
+use Rattle.endian.specs.Lists.{zeros}
+use Rattle.loader.specs.State.{ramOk, idle, ended}
 use Rattle.loader.specs.Answers.{Report, refused, continues, stopped, reportOf}
 use Rattle.loader.specs.declared.Phase.the-variants as phase
 use Rattle.loader.specs.declared.Config.{Config}

@@ -6,13 +6,15 @@ use lib.Dec.{eqb, ltb}
 use lib.ListN.{length, take, set}
 use lib.Seq.{paste}
 use Rattle.framing.specs.Header.{Reading, good, stop, headerAt}
-use Rattle.blake2s.specs.Rfc7693.{blake2s, bytes}
+use Rattle.blake2s.specs.Rfc7693.{blake2s}
+use Rattle.endian.specs.Endian.{bytes}
 use Rattle.cdi.specs.Cdi.{cdiOf}
 use Rattle.protocol.specs.Commands.{firmware, commandIn, loadIn, goodLoad, usesUss, carriedBy, placeOf, countIn, isLast}
 use Rattle.protocol.specs.Replies.{sent, putIn, nameReply, udiReply, loadReply, blockReply, digestReply}
 use Rattle.protocol.specs.declared.Load.{Load}
 use Rattle.protocol.specs.declared.Reply.{Reply}
-use Rattle.loader.specs.State.{zeros, same, bodyLen, inRange, live, idle, ended}
+use Rattle.endian.specs.Lists.{zeros}
+use Rattle.loader.specs.State.{same, bodyLen, inRange, live, idle, ended}
 use Rattle.loader.specs.Answers.{Report, refused, continues, stopped, started, Outcome}
 use Rattle.loader.specs.declared.Phase.{Phase}
 use Rattle.loader.specs.declared.Phase.the-variants as phase

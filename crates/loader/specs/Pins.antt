@@ -7,26 +7,27 @@ use mathlib.Core.Option.{Option, none, some}
 use mathlib.Core.List.{List, [], _∷_, _++_}
 use lib.ListN.{length, replicate}
 use Rattle.protocol.specs.Commands.{loadIn, goodLoad, usesUss}
-use Rattle.protocol.specs.Replies.{filled, sent, nameReply, udiReply, loadReply, blockReply, digestReply}
+use Rattle.endian.specs.Lists.{padded, zeros}
+use Rattle.protocol.specs.Replies.{sent, nameReply, udiReply, loadReply, blockReply, digestReply}
 use Rattle.protocol.specs.declared.Load.{Load}
 use Rattle.record.specs.Record.{recordAt}
 use Rattle.cdi.specs.Theorems.{Strings}
-use Rattle.loader.specs.State.{zeros, idle, ended}
+use Rattle.loader.specs.State.{idle, ended}
 use Rattle.loader.specs.Theorems.{Call}
 use Rattle.loader.specs.declared.Phase.{Phase}
 use Rattle.loader.specs.declared.State.{State}
 
 -- a load of one byte, with a flag
 abbrev pub flagged : ℕ → Load
-flagged flag = loadIn (filled 129 (0x13 ∷ 0x03 ∷ 1 ∷ 0 ∷ 0 ∷ 0 ∷ flag ∷ []))
+flagged flag = loadIn (padded 129 (0x13 ∷ 0x03 ∷ 1 ∷ 0 ∷ 0 ∷ 0 ∷ flag ∷ []))
 
 -- the type of a record whose first four bytes are these
 abbrev pub typeOf : ℕ → ℕ → ℕ → ℕ → Option ℕ
-typeOf a b c d = recordAt (filled 256 (a ∷ b ∷ c ∷ d ∷ [])) .type
+typeOf a b c d = recordAt (padded 256 (a ∷ b ∷ c ∷ d ∷ [])) .type
 
 -- a record with these bytes for its mask
 abbrev pub masked : ℕ → ℕ → ℕ → ℕ → List ℕ
-masked a b c d = filled 256 (4 ∷ 0 ∷ 0 ∷ 0 ∷ a ∷ b ∷ c ∷ d ∷ [])
+masked a b c d = padded 256 (4 ∷ 0 ∷ 0 ∷ 0 ∷ a ∷ b ∷ c ∷ d ∷ [])
 
 pub record Pins : Type 0 where
   -- flags 0, 1, 2 and 255, in byte 6: 0 means that there is no user secret, 1 that it is used, and a load with another is not good

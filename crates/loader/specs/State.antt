@@ -3,7 +3,7 @@ use Prim.Native.Nat.{ℕ}
 use mathlib.Core.Bool.{Bool, true, false, not, cond, _&&_}
 use mathlib.Core.List.{List, [], _∷_}
 use lib.Dec.{eqb, leb, ltb}
-use lib.ListN.{replicate}
+use Rattle.endian.specs.Lists.{zeros}
 use Rattle.framing.specs.Header.{Reading, good, stop, headerAt}
 use Rattle.protocol.specs.Commands.{blocksFor}
 use Rattle.loader.specs.declared.Phase.{Phase}
@@ -11,9 +11,6 @@ use Rattle.loader.specs.declared.Phase.the-variants.{Waiting, Loading, S
 use Rattle.loader.specs.declared.Incoming.{Incoming}
 use Rattle.loader.specs.declared.Progress.{Progress}
 use Rattle.loader.specs.declared.State.{State}
-
-abbrev pub zeros : ℕ → List ℕ
-zeros n = replicate n 0
 
 -- whether two lists hold the same bytes
 abbrev pub same : List ℕ → List ℕ → Bool

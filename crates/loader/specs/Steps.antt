@@ -1,7 +1,7 @@
 -- What the private functions of src/ give back, in the library's own types. A reader of the promises of `receive` does not need this file.
 use Prim.Native.Nat.{ℕ}
 use Rattle.protocol.specs.declared.Frame.{Frame}
-use Rattle.loader.specs.State.{zeros}
+use Rattle.endian.specs.Lists.{zeros}
 use Rattle.loader.specs.Answers.{refusalNumber}
 use Rattle.loader.specs.declared.Incoming.{Incoming}
 use Rattle.loader.specs.declared.State.{State}

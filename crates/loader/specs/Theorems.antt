@@ -9,7 +9,8 @@ use lib.ListN.{length, take, drop}
 use lib.Seq.{paste}
 use Rattle.framing.specs.Header.{good, headerAt}
 use Rattle.protocol.specs.Commands.{placeOf, countIn}
-use Rattle.loader.specs.State.{zeros, inRange, live, idle, ended}
+use Rattle.endian.specs.Lists.{zeros}
+use Rattle.loader.specs.State.{inRange, live, idle, ended}
 use Rattle.loader.specs.Answers.{refused, continues, stopped, started, reportOf, Outcome}
 use Rattle.loader.specs.Begin.{beginning}
 use Rattle.loader.specs.Machine.{gathered, refusal, refusing, step}

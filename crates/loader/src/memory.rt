@@ -1,10 +1,11 @@
 // Bytes read, written and compared in what is lent: the reply room, RAM and the device secret.
 ghost use mathlib.Core.Path.{_≡_};
 ghost use mathlib.Core.List.{[]};
-ghost use Prim.Native.Nat.{_+_, _*_, _/_, _%_, _^_, _≤_, _<_};
-ghost use lib.ListN.{length, take, getD, replicate};
+ghost use Prim.Native.Nat.{_+_, _≤_, _<_};
+ghost use lib.ListN.{length, take, replicate};
 ghost use lib.Seq.{paste};
-ghost use Rattle.blake2s.specs.Rfc7693.{blake2s, bytes};
+ghost use Rattle.blake2s.specs.Rfc7693.{blake2s};
+ghost use Rattle.endian.specs.Endian.{bytes};
 ghost use Rattle.protocol.specs.Commands.{bytesOf, placeOf, countIn};
 ghost use Rattle.protocol.specs.Replies.{sent, putIn};
 ghost use Rattle.loader.specs.State.{same};
@@ -55,26 +56,12 @@ pub fn measure(ram: &[u8], n: usize) -> [u8; 32]
     digest
 }
 
-// Byte i of eight words, lowest byte of each first.
-fn byte_at(words: &[u32], i: usize) -> u8
-    requires { ⌜ (i < 32) × (length (now words) ≡ 8) ⌝ }
-    ensures { λ r. ⌜ r ≡ getD (now (words .entry)) (i / 4) 0 / 2 ^ (8 * (i % 4)) % 2 ^ 8 ⌝ }
-{
-    endian::byte(words[i / 4], i % 4)
-}
-
 // The device secret as bytes.
 pub fn secret_bytes(words: &[u32]) -> [u8; 32]
-    requires { ⌜ length (now words) ≡ 8 ⌝ }
     ensures { λ r. ⌜ r ≡ bytes (now (words .entry)) ⌝ }
 {
     let mut secret = [0u8; 32];
-    let mut i = 0;
-    while i < 32 {
-        let b = byte_at(words, i);
-        secret[i] = b;
-        i += 1;
-    }
+    endian::write_bytes(words, &mut secret);
     secret
 }
 

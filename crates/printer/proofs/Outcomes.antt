@@ -4,7 +4,7 @@ use mathlib.Core.Bool.{Bool}
 use mathlib.Core.Path.{_≡_, ap}
 use mathlib.Core.List.{List, [], _++_}
 use lib.ListN.{take, drop}
-use Rattle.loader.specs.State.{zeros}
+use Rattle.endian.specs.Lists.{zeros}
 use Rattle.loader.specs.Begin.{Beginning, beginningOf, beginning}
 use Rattle.loader.specs.Machine.{plain}
 use Rattle.loader.specs.declared.Begun.{Begun}

@@ -4,7 +4,8 @@ use native.Mathlib.Omega.{arith}
 use mathlib.Core.Path.{_≡_, refl}
 use mathlib.Core.List.{List, [], _∷_}
 use lib.ListN.{length}
-use Rattle.blake2s.specs.Rfc7693.{rotr, word, words, bytes, iv, sigma, added, xorRotated, G, workVector, round, rounds, F, padded, input, blockAt, blockCount, leading, compressions, compressed, initial, blake2s}
+use Rattle.blake2s.specs.Rfc7693.{rotr, words, iv, sigma, added, xorRotated, G, workVector, round, rounds, F, input, blockAt, blockCount, leading, compressions, compressed, initial, blake2s}
+use Rattle.endian.specs.Endian.{word, firstBytes}
 use Rattle.framing.specs.Header.{headerAt, headerByte}
 use Rattle.record.specs.Record.{recordAt}
 use Rattle.cdi.specs.Cdi.{cdiString, cdiOf}
@@ -23,7 +24,7 @@ two-digits [] = refl
 two-digits (b ∷ s) = let e = two-digits s in omega arith
 
 pub printer : Printer
-unfolding output decimalOf afterBegin received beginning step refusal processed gathered acted inRange ended putIn recordAt word headerAt nameReply udiReply replyHeader headerByte loadIn loadAnswer loadReply afterLoad actedBlock finishedWith starting digestReply cdiString cdiOf rotr words bytes iv sigma added xorRotated G workVector round rounds F padded input blockAt blockCount leading compressions compressed initial blake2s
+unfolding output decimalOf afterBegin received beginning step refusal processed gathered acted inRange ended putIn recordAt word headerAt nameReply udiReply replyHeader headerByte loadIn loadAnswer loadReply afterLoad actedBlock finishedWith starting digestReply cdiString cdiOf rotr words firstBytes iv sigma added xorRotated G workVector round rounds F input blockAt blockCount leading compressions compressed initial blake2s
 printer = record {
   folds = folds;
   example = refl;

@@ -14,8 +14,8 @@ use Rattle.printer.specs.declared.lines.Text.{Text}
 abbrev pub longer : Text → ℕ → Text
 longer l b = record { len = l .len + 1; bytes = set (l .bytes) (l .len) b }
 
-filled : (t : List ℕ) (b k : ℕ) → set (t ++ replicate (suc k) 0) (length t) b ≡ (t ++ b ∷ []) ++ replicate k 0
-filled t b k = set-append-seam t 0 (replicate k 0) b ∙ sym (append-assoc t (b ∷ []) (replicate k 0))
+padded : (t : List ℕ) (b k : ℕ) → set (t ++ replicate (suc k) 0) (length t) b ≡ (t ++ b ∷ []) ++ replicate k 0
+padded t b k = set-append-seam t 0 (replicate k 0) b ∙ sym (append-assoc t (b ∷ []) (replicate k 0))
 
 one-more : (t : List ℕ) (b : ℕ) → length t < 349 → longer (textOf t) b ≡ textOf (t ++ b ∷ [])
 unfolding textOf
@@ -23,7 +23,7 @@ one-more t b h =
     let e : 349 - length t ≡ suc (348 - length t) = omega arith in
     let n : length (t ++ b ∷ []) ≡ length t + 1 = length-append t (b ∷ []) in
     let d : 349 - (length t + 1) ≡ 348 - length t = omega arith in
-    rw (n, d, e, filled t b (348 - length t))
+    rw (n, d, e, padded t b (348 - length t))
 
 -- how long it is
 len-is : (l : Text) (t : List ℕ) → l ≡ textOf t → l .len ≡ length t

@@ -1,11 +1,12 @@
 -- The lines of a session, in ASCII: document 01, "Session printer".
-use Prim.Native.Nat.{ℕ, zero, suc, _+_, _-_, _/_, _%_}
+use Prim.Native.Nat.{ℕ, zero, suc, _+_, _/_, _%_}
 use Prim.Native.Char.{code}
 use Prim.Native.String.{String, [] as []ˢ, _∷_ as _∷ˢ_}
 use mathlib.Core.Bool.{cond}
 use mathlib.Core.List.{List, [], _∷_, _++_}
 use lib.Dec.{ltb}
-use lib.ListN.{length, replicate}
+use lib.ListN.{length}
+use Rattle.endian.specs.Lists.{padded}
 use Rattle.loader.specs.Answers.{Report, refused, continues, stopped, started}
 use Rattle.printer.specs.declared.lines.Text.{Text}
 
@@ -62,4 +63,4 @@ endLine (started address n) cdi = startLine n cdi
 
 -- lines at the front of 349 bytes, and zeros behind them
 unfoldable pub textOf : List ℕ → Text
-textOf t = record { len = length t; bytes = t ++ replicate (349 - length t) 0 }
+textOf t = record { len = length t; bytes = padded 349 t }

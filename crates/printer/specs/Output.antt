@@ -5,9 +5,9 @@ use mathlib.Core.Bool.{Bool, true, false, cond}
 use mathlib.Core.List.{List, [], _∷_, _++_}
 use lib.Dec.{eqb, ltb}
 use lib.ListN.{length, take, drop}
-use Rattle.blake2s.specs.Rfc7693.{each, word}
+use Rattle.endian.specs.Lists.{each, zeros}
+use Rattle.endian.specs.Endian.{word}
 use Rattle.loader.specs.Answers.{Report, refused, continues, stopped, started, Outcome}
-use Rattle.loader.specs.State.{zeros}
 use Rattle.loader.specs.Begin.{beginning}
 use Rattle.loader.specs.Machine.{plain, step}
 use Rattle.loader.specs.declared.State.{State}

@@ -3,9 +3,7 @@ use Prim.Native.Nat.{ℕ, _+_, _*_, _^_, _<_}
 use mathlib.Core.Path.{_≡_}
 use mathlib.Core.List.{List, [], _∷_, _++_}
 use lib.ListN.{length, replicate}
-use Rattle.blake2s.specs.Rfc7693.{each}
-use Rattle.protocol.specs.Replies.{filled}
-use Rattle.loader.specs.State.{zeros}
+use Rattle.endian.specs.Lists.{each, padded, zeros}
 use Rattle.printer.specs.Lines.{ascii, hexOf, decimalOf}
 use Rattle.printer.specs.Output.{Output, output}
 use Rattle.printer.specs.Turns.{turns}
@@ -24,10 +22,10 @@ front′ = 4 ∷ zeros 255 ++ each 32 (λ i. 0x20 + i) ++ each 8 (λ i. 0xd0 + i
 
 -- the load of a program of one byte with a user secret, and its block
 abbrev pub load : List ℕ
-load = filled 129 (0x13 ∷ 0x03 ∷ 1 ∷ 0 ∷ 0 ∷ 0 ∷ 1 ∷ each 32 (λ i. 0x60 + i))
+load = padded 129 (0x13 ∷ 0x03 ∷ 1 ∷ 0 ∷ 0 ∷ 0 ∷ 1 ∷ each 32 (λ i. 0x60 + i))
 
 abbrev pub block : List ℕ
-block = filled 129 (0x13 ∷ 0x05 ∷ 0x2a ∷ [])
+block = padded 129 (0x13 ∷ 0x05 ∷ 0x2a ∷ [])
 
 pub record Printer : Type 0 where
   -- the turns that `open` and `advance` promise, one after the other, give this output, for every input and every RAM; the count has 64 bits

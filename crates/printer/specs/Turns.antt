@@ -5,9 +5,8 @@ use mathlib.Core.Bool.{Bool, true, cond}
 use mathlib.Core.List.{List, [], _∷_, _++_}
 use lib.Dec.{eqb, ltb}
 use lib.ListN.{length, take, drop}
-use Rattle.loader.specs.State.{zeros}
+use Rattle.endian.specs.Lists.{zeros, padded}
 use Rattle.loader.specs.Answers.{Outcome}
-use Rattle.protocol.specs.Replies.{filled}
 use Rattle.printer.specs.Lines.{waitingLine, errorLine, textOf}
 use Rattle.printer.specs.Output.{afterBegin, received, callText, isOver, Output, behind}
 use Rattle.printer.specs.declared.turns.Session.{Session}
@@ -68,4 +67,4 @@ loop t ram n (b ∷ bytes) =
 abbrev pub turns : List ℕ → ℕ → Output
 turns input m =
     let front = take 296 input in
-    loop (opening (filled 296 front) (length front) m) (zeros m) (length front) (drop 296 input)
+    loop (opening (padded 296 front) (length front) m) (zeros m) (length front) (drop 296 input)

@@ -2,7 +2,7 @@
 ghost use mathlib.Core.Path.{_≡_};
 ghost use Prim.Native.Nat.{_+_, _≤_};
 ghost use lib.ListN.{take, drop};
-ghost use Rattle.blake2s.specs.Rfc7693.{word};
+ghost use Rattle.endian.specs.Endian.{word};
 ghost use Rattle.loader.specs.Begin.{beginningOf, beginning};
 ghost use Rattle.printer.specs.Output.{wordsIn};
 use loader::Begun;
@@ -44,5 +44,5 @@ fn word_at(front: [u8; 296], at: usize) -> u32
     requires { ⌜ at + 4 ≤ 296 ⌝ }
     ensures { λ r. ⌜ r ≡ word front at ⌝ }
 {
-    endian::number(front[at], front[at + 1], front[at + 2], front[at + 3])
+    endian::word(front[at], front[at + 1], front[at + 2], front[at + 3])
 }

@@ -14,9 +14,10 @@ use borrow.Author.Tests.{eq-eqb, eqb-true, eqb-false, le-leb, leb-true}
 use Rattle.framing.specs.Header.{good, headerAt, headerByte, codeOf, frameId, inField}
 use Rattle.framing.proofs.Headers.{headers}
 use Rattle.framing.proofs.Headers as framing
-use Rattle.blake2s.specs.Rfc7693.{word}
+use Rattle.endian.specs.Endian.{word}
 use Rattle.protocol.specs.Commands.{firmware, loadIn, goodLoad, blocksFor, placeOf, countIn, isLast}
-use Rattle.protocol.specs.Replies.{written, replyHeader, replyWith, filled, nameReply, udiReply, loadReply, blockReply, digestReply}
+use Rattle.protocol.specs.Replies.{written, replyHeader, replyWith, nameReply, udiReply, loadReply, blockReply, digestReply}
+use Rattle.endian.specs.Lists.{padded}
 use Rattle.protocol.specs.Theorems.{Protocol, IsGood, Framed, loadWith}
 use Rattle.protocol.specs.declared.Load.{Load}
 
@@ -77,9 +78,9 @@ of-length h n (inl e) = reply-header h n (rw e (omega arith))
 of-length h n (inr (inl e)) = reply-header h n (rw e (omega arith))
 of-length h n (inr (inr e)) = reply-header h n (rw e (omega arith))
 
-framed : (h n : ℕ) (bytes : List ℕ) → n ≤ 128 → Framed (replyWith h n (filled 128 bytes))
+framed : (h n : ℕ) (bytes : List ℕ) → n ≤ 128 → Framed (replyWith h n (padded 128 bytes))
 framed h n bytes l =
-    let e : length (take n (filled 128 bytes)) ≡ n = rw (length-take, length-append, length-replicate) (omega arith) in
+    let e : length (take n (padded 128 bytes)) ≡ n = rw (length-take, length-append, length-replicate) (omega arith) in
     (l, ap suc e ∙ sym (add-one n))
 
 reply-lengths : (h : ℕ) (udi digest : List ℕ) (g : Bool)

@@ -5,7 +5,7 @@ use mathlib.Core.Bool.{Bool, _&&_}
 use mathlib.Core.List.{List, _∷_}
 use lib.Dec.{eqb, leb}
 use lib.ListN.{getD, take, drop}
-use Rattle.blake2s.specs.Rfc7693.{word}
+use Rattle.endian.specs.Endian.{word}
 use Rattle.protocol.specs.declared.Frame.{Frame}
 use Rattle.protocol.specs.declared.Load.{Load}
 

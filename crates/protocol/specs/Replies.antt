@@ -1,9 +1,10 @@
 -- The replies: document 01, "Commands and replies". A reply has the command's frame ID, endpoint 2 and header bit 2 zero; unfilled bytes of its
 -- body are zero.
-use Prim.Native.Nat.{ℕ, _-_}
+use Prim.Native.Nat.{ℕ}
 use mathlib.Core.Bool.{Bool, cond}
 use mathlib.Core.List.{List, [], _∷_, _++_}
-use lib.ListN.{length, take, drop, replicate}
+use lib.ListN.{length, take, drop}
+use Rattle.endian.specs.Lists.{padded}
 use Rattle.framing.specs.Header.{frameId, inField, Writing, byte, refused, headerByte}
 use Rattle.protocol.specs.Commands.{firmware}
 use Rattle.protocol.specs.declared.Reply.{Reply}
@@ -21,10 +22,6 @@ replyHeader h n = written (headerByte (inField frameId h) firmware n)
 abbrev pub replyWith : ℕ → ℕ → List ℕ → Reply
 replyWith h n body = record { header = replyHeader h n; len = n; body = body }
 
--- bytes filled up with zeros to n
-abbrev pub filled : ℕ → List ℕ → List ℕ
-filled n bytes = bytes ++ replicate (n - length bytes) 0
-
 -- the bytes of a reply as they are sent
 abbrev pub sent : Reply → List ℕ
 sent r = r .header ∷ take (r .len) (r .body)
@@ -36,20 +33,20 @@ putIn room frame = frame ++ drop (length frame) room
 -- 0x01, name and version: "tk1 ", "mkdf", version 1 in four bytes
 unfoldable pub nameReply : ℕ → Reply
 nameReply h =
-    replyWith h 32 (filled 128 (0x02 ∷ 0x74 ∷ 0x6b ∷ 0x31 ∷ 0x20 ∷ 0x6d ∷ 0x6b ∷ 0x64 ∷ 0x66 ∷ 1 ∷ 0 ∷ 0 ∷ 0 ∷ []))
+    replyWith h 32 (padded 128 (0x02 ∷ 0x74 ∷ 0x6b ∷ 0x31 ∷ 0x20 ∷ 0x6d ∷ 0x6b ∷ 0x64 ∷ 0x66 ∷ 1 ∷ 0 ∷ 0 ∷ 0 ∷ []))
 
 -- 0x08, UDI: status 0, the eight bytes
 unfoldable pub udiReply : ℕ → List ℕ → Reply
-udiReply h udi = replyWith h 32 (filled 128 (0x09 ∷ 0 ∷ udi))
+udiReply h udi = replyWith h 32 (padded 128 (0x09 ∷ 0 ∷ udi))
 
 -- 0x03, load: status 0, or 1 for a load that is not taken
 unfoldable pub loadReply : ℕ → Bool → Reply
-loadReply h good = replyWith h 4 (filled 128 (0x04 ∷ cond good 0 1 ∷ []))
+loadReply h good = replyWith h 4 (padded 128 (0x04 ∷ cond good 0 1 ∷ []))
 
 -- 0x05, block: status 0
 unfoldable pub blockReply : ℕ → Reply
-blockReply h = replyWith h 4 (filled 128 (0x06 ∷ 0 ∷ []))
+blockReply h = replyWith h 4 (padded 128 (0x06 ∷ 0 ∷ []))
 
 -- 0x05, the last block: status 0, the 32 bytes of the digest
 unfoldable pub digestReply : ℕ → List ℕ → Reply
-digestReply h digest = replyWith h 128 (filled 128 (0x07 ∷ 0 ∷ digest))
+digestReply h digest = replyWith h 128 (padded 128 (0x07 ∷ 0 ∷ digest))

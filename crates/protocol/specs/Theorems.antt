@@ -7,7 +7,7 @@ use mathlib.Core.Bool.{Bool, true, false}
 use mathlib.Core.List.{List, _∷_, _++_}
 use lib.ListN.{length}
 use Rattle.framing.specs.Header.{good, headerAt, inField, frameId}
-use Rattle.blake2s.specs.Rfc7693.{word}
+use Rattle.endian.specs.Endian.{word}
 use Rattle.protocol.specs.Commands.{loadIn, goodLoad, usesUss, blocksFor, placeOf, countIn, isLast}
 use Rattle.protocol.specs.Replies.{replyHeader, sent, nameReply, udiReply, loadReply, blockReply, digestReply}
 use Rattle.protocol.specs.declared.Load.{Load}

@@ -40,7 +40,7 @@ pub fn read_load(f: Frame) -> Load
 {
     let body = f.body;
     Load {
-        size: endian::number(body[1], body[2], body[3], body[4]),
+        size: endian::word(body[1], body[2], body[3], body[4]),
         flag: body[5],
         uss: uss_in(body),
     }

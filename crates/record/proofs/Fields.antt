@@ -6,7 +6,7 @@ use native.Mathlib.Nat.{add-zero}
 use native.Mathlib.Omega.{arith}
 use lib.ListN.{getD, take, drop}
 use lib.Seq.{getD-take, getD-drop}
-use Rattle.blake2s.specs.Rfc7693.{word}
+use Rattle.endian.specs.Endian.{word}
 
 pub word-at : (l : List ℕ) (f : ℕ)
     → word (take 4 (drop f l)) 0 ≡ word (getD l f 0 ∷ getD l (f + 1) 0 ∷ getD l (f + 2) 0 ∷ getD l (f + 3) 0 ∷ []) 0

@@ -56,8 +56,8 @@ fn part(bytes: &[u8], from: usize) -> [u8; 32]
 pub fn read(bytes: [u8; 256]) -> Record
     ensures { λ r. ⌜ recordOf r ≡ recordAt bytes ⌝ }
 {
-    let reset_type = type_of(endian::number(bytes[0], bytes[1], bytes[2], bytes[3]));
-    let mask = endian::number(bytes[4], bytes[5], bytes[6], bytes[7]);
+    let reset_type = type_of(endian::word(bytes[0], bytes[1], bytes[2], bytes[3]));
+    let mask = endian::word(bytes[4], bytes[5], bytes[6], bytes[7]);
     Record {
         reset_type,
         reset_seed: mask % 2 == 1,

@@ -10,20 +10,22 @@ use lib.ListN.{length, getD, take, drop, drop-of-length-le, length-append}
 use lib.Seq.{length-paste, take-paste, take-append-add, take-all}
 use borrow.Author.Tests.{eqb-true, eqb-false}
 use Rattle.framing.specs.Header.{headerAt}
-use Rattle.blake2s.specs.Rfc7693.{blake2s, bytes}
+use Rattle.blake2s.specs.Rfc7693.{blake2s}
+use Rattle.endian.specs.Endian.{bytes}
 use Rattle.cdi.specs.Cdi.{cdiString, cdiOf}
 use Rattle.protocol.specs.Commands.{loadIn, goodLoad, usesUss, carriedBy, blocksFor, countIn, isLast}
 use Rattle.protocol.specs.Replies.{sent, putIn, loadReply, blockReply, digestReply}
 use Rattle.protocol.specs.declared.Reply.{Reply}
 use Rattle.protocol.proofs.Proved.{protocol}
 use Rattle.record.specs.Record.{typeField, requiredField, fieldOf, numberIn, recordAt}
-use Rattle.loader.specs.State.{zeros, same, bodyLen, idle, ended}
+use Rattle.endian.specs.Lists.{zeros, All}
+use Rattle.loader.specs.State.{same, bodyLen, idle, ended}
 use Rattle.loader.specs.Answers.{continues, stopped, started, Outcome}
 use Rattle.loader.specs.Begin.{waiting, configOf}
 use Rattle.loader.specs.Machine.{actionIn, frameIn, storedIn, replying, loadAnswer, afterLoad, starting, allowed, finishedWith, actedBlock, performed, acted}
 use Rattle.loader.proofs.Bytes.{same-refl, same-eq}
 use Rattle.loader.proofs.Ranges.{never, by-test, length-some}
-use Rattle.session.specs.Reading.{All, Good, forFirmware, bodyOf, Query, Load, Opens, Block, carried, sizeOf, programOf, digestOf, Allowed, chained, measuredId}
+use Rattle.session.specs.Reading.{Good, forFirmware, bodyOf, Query, Load, Opens, Block, carried, sizeOf, programOf, digestOf, Allowed, chained, measuredId}
 use Rattle.session.proofs.Frames.{All-append}
 use Rattle.session.proofs.Gathering.{holding, length-snoc}
 use Rattle.session.proofs.Shapes.{AskedWaiting, asks-name, asks-udi, asks-load, wrong-command, wrong-length, asked-waiting, AskedLoading, asks-block, no-command, no-length, asked-loading, Shape, one-shape, next-is, no-load, carried-snoc, carries-127, carried-length, load-size, All-last}

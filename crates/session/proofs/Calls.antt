@@ -10,7 +10,8 @@ use Rattle.protocol.specs.Commands.{blocksFor}
 use Rattle.loader.specs.State.{ended}
 use Rattle.loader.specs.Answers.{continues, stopped, Outcome}
 use Rattle.loader.specs.Machine.{gathered, withIncoming, afterByte, processed}
-use Rattle.session.specs.Reading.{All, Good, joined, forFirmware, own, sizeOf, Starting}
+use Rattle.endian.specs.Lists.{All}
+use Rattle.session.specs.Reading.{Good, joined, forFirmware, own, sizeOf, Starting}
 use Rattle.session.specs.Session.{Call}
 use Rattle.session.proofs.Frames.{All-append, own-append, joined-snoc, own-more, own-same, same-size, Further, reads-on}
 use Rattle.session.proofs.Gathering.{holding, Partial, Gathers, at-bad, at-part, at-passed, at-whole, gathers}

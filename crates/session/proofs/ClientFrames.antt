@@ -12,18 +12,20 @@ use lib.Seq.{take-append-add, take-append-seam, take-all, drop-at}
 use borrow.Author.Tests.{eq-eqb, ne-eqb}
 use Rattle.framing.specs.Header.{good, headerAt, inField, endpoint}
 use Rattle.framing.proofs.Headers.{headers, fields-of}
-use Rattle.blake2s.specs.Rfc7693.{word, blake2s}
+use Rattle.endian.specs.Endian.{word}
+use Rattle.blake2s.specs.Rfc7693.{blake2s}
 use Rattle.protocol.specs.Commands.{firmware, loadIn, carriedBy, blocksFor}
-use Rattle.protocol.specs.Replies.{written, filled}
+use Rattle.protocol.specs.Replies.{written}
+use Rattle.endian.specs.Lists.{padded, All, Bytes}
 use Rattle.protocol.specs.Theorems.{loadWith, IsGood}
 use Rattle.protocol.proofs.Proved.{protocol}
 use Rattle.protocol.specs.declared.Load.{Load}
 use Rattle.client.specs.Frames.{commandHeader, sizeBytes, loadBody, blockBody}
 use Rattle.client.proofs.Proved.{client}
 use Rattle.client.specs.declared.Secret.{Secret}
-use Rattle.session.specs.Reading.{All, Good, joined, own, GoodLoad, Block, carried, programOf, Allowed, Starting}
+use Rattle.session.specs.Reading.{Good, joined, own, GoodLoad, Block, carried, programOf, Allowed, Starting}
 use Rattle.session.specs.Reading as shape
-use Rattle.session.specs.Client.{Bytes, frame, framesTo, frames, Made, IsLoad, IsBlock, ReadAs}
+use Rattle.session.specs.Client.{frame, framesTo, frames, Made, IsLoad, IsBlock, ReadAs}
 use Rattle.session.proofs.Frames.{All-append, own-more}
 use Rattle.session.proofs.Gathering.{length-snoc}
 use Rattle.session.proofs.Shapes.{carried-snoc}
@@ -83,7 +85,7 @@ module _ (prog : List ℕ) (id : ℕ) (secret : Secret) (made : Made prog id sec
       size : word (sizeBytes (length prog)) 0 ≡ length prog
       size = let s = small in size-is (length prog) (omega arith)
 
-      go : (u : Bool) → loadIn (commandHeader id ∷ filled 128 (0x03 ∷ sizeBytes (length prog) ++ cond u (1 ∷ secret .uss) (0 ∷ [])))
+      go : (u : Bool) → loadIn (commandHeader id ∷ padded 128 (0x03 ∷ sizeBytes (length prog) ++ cond u (1 ∷ secret .uss) (0 ∷ [])))
           ≡ loadWith (length prog) (cond u 1 0) (cond u (secret .uss) (replicate 32 0))
       go true = protocol .load (commandHeader id) 0x03 1 (sizeBytes (length prog)) (secret .uss) _ refl (made .uss-length) ∙ ap (λ (n : ℕ). loadWith n 1 (secret .uss)) size
       go false =
@@ -95,7 +97,7 @@ module _ (prog : List ℕ) (id : ℕ) (secret : Secret) (made : Made prog id sec
   unfolding loadBody
   ignored = go (secret .used)
     where
-      go : (u : Bool) → drop 38 (filled 128 (0x03 ∷ sizeBytes (length prog) ++ cond u (1 ∷ secret .uss) (0 ∷ []))) ≡ replicate 90 0
+      go : (u : Bool) → drop 38 (padded 128 (0x03 ∷ sizeBytes (length prog) ++ cond u (1 ∷ secret .uss) (0 ∷ []))) ≡ replicate 90 0
       go true = rw (made .uss-length) (drop-at (secret .uss) (replicate 90 0) 32 (made .uss-length))
       go false = refl
 
@@ -118,7 +120,7 @@ module _ (prog : List ℕ) (id : ℕ) (secret : Secret) (made : Made prog id sec
 
   -- the part of the program that a block carries
   abbrev part : ℕ → List ℕ
-  part k = filled 127 (take 127 (drop (127 * k) prog))
+  part k = padded 127 (take 127 (drop (127 * k) prog))
 
   carries : (k : ℕ) → carriedBy (block-frame k) ≡ part k
   unfolding blockBody
@@ -213,7 +215,7 @@ module _ (prog : List ℕ) (id : ℕ) (secret : Secret) (made : Made prog id sec
   unfolding loadBody
   body-is = go (secret .used)
     where
-      go : (u : Bool) → filled 128 (0x03 ∷ sizeBytes (length prog) ++ cond u (1 ∷ secret .uss) (0 ∷ []))
+      go : (u : Bool) → padded 128 (0x03 ∷ sizeBytes (length prog) ++ cond u (1 ∷ secret .uss) (0 ∷ []))
           ≡ 0x03 ∷ sizeBytes (length prog) ++ cond u 1 0 ∷ (cond u (secret .uss) (replicate 32 0) ++ replicate 90 0)
       go true = rw (made .uss-length)
       go false = refl

@@ -6,7 +6,8 @@ use mathlib.Core.List.{List, [], _∷_, _++_, append-assoc, append-nil, head-eq-
 use native.Mathlib.Omega.{arith}
 use lib.ListN.{length}
 use Rattle.framing.specs.Header.{good}
-use Rattle.session.specs.Reading.{All, Good, joined, forFirmware, own}
+use Rattle.endian.specs.Lists.{All}
+use Rattle.session.specs.Reading.{Good, joined, forFirmware, own}
 
 pub append-split : {A : Type 0} (a b x y : List A) → length a ≡ length b → a ++ x ≡ b ++ y → (a ≡ b) × (x ≡ y)
 append-split [] [] x y h e = (refl, e)

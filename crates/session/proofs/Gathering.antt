@@ -9,7 +9,8 @@ use lib.ListN.{length, set, drop, length-append}
 use borrow.Author.Tests.{ne-eqb, ltb-true, ltb-false}
 use Rattle.framing.specs.Header.{Reading, good, stop, headerAt, inField, endpoint}
 use Rattle.framing.proofs.Headers.{by-bits, fields-of}
-use Rattle.loader.specs.State.{zeros, bodyLen, idle}
+use Rattle.endian.specs.Lists.{zeros}
+use Rattle.loader.specs.State.{bodyLen, idle}
 use Rattle.loader.specs.Machine.{withByte, gathered}
 use Rattle.loader.proofs.Ranges.{body-small, length-some}
 use Rattle.session.specs.Reading.{Good, forFirmware}

@@ -10,7 +10,8 @@ use lib.Seq.{getD-at, getD-append-seam}
 use borrow.Author.Tests.{eqb-true, eqb-false}
 use Rattle.client.specs.Frames.{commandHeader}
 use Rattle.client.specs.declared.Secret.{Secret}
-use Rattle.session.specs.Reading.{All, Good, joined}
+use Rattle.endian.specs.Lists.{All}
+use Rattle.session.specs.Reading.{Good, joined}
 use Rattle.session.specs.Client.{frame, framesTo, Made}
 use Rattle.session.proofs.Frames.{All-append, append-split, Further, reads-on}
 use Rattle.session.proofs.Gathering.{length-snoc}

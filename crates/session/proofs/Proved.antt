@@ -7,7 +7,8 @@ use mathlib.Core.Option.{none, some}
 use mathlib.Core.List.{List, [], _∷_, _++_, append-nil, tail-eq-of-cons-eq, head-eq-of-cons-eq, List·Memᴰ, List·Memᴰ·head, List·Memᴰ·tail, List·Memᴰ·not-nil, List·Memᴰ·cases-cons}
 use native.Mathlib.Omega.{arith}
 use lib.ListN.{length, getD, replicate, length-append}
-use Rattle.blake2s.specs.Rfc7693.{blake2s, bytes}
+use Rattle.blake2s.specs.Rfc7693.{blake2s}
+use Rattle.endian.specs.Endian.{bytes}
 use Rattle.cdi.specs.Cdi.{cdiString}
 use Rattle.cdi.specs.Theorems.{Inputs}
 use Rattle.cdi.proofs.Proved.{cdi}
@@ -21,10 +22,11 @@ use Rattle.client.specs.declared.Secret.{Secret}
 use Rattle.loader.specs.State.{live}
 use Rattle.loader.specs.Answers.{refused}
 use Rattle.loader.specs.Begin.{waiting, beginning}
-use Rattle.loader.proofs.Bytes.{bytes-length}
+use Rattle.endian.proofs.Words.{bytes-length}
 use Rattle.loader.proofs.Proved.{loader}
-use Rattle.session.specs.Reading.{All, Good, joined, own, digestOf, Allowed, chained, measuredId, Starting}
-use Rattle.session.specs.Session.{Words, Entry, Among, isAccepted, receivedBytes, Session, allOf, acceptedOf, hasEnded, refusalIn}
+use Rattle.endian.specs.Lists.{All, Words}
+use Rattle.session.specs.Reading.{Good, joined, own, digestOf, Allowed, chained, measuredId, Starting}
+use Rattle.session.specs.Session.{Entry, Among, isAccepted, receivedBytes, Session, allOf, acceptedOf, hasEnded, refusalIn}
 use Rattle.session.specs.Client.{frames, Made}
 use Rattle.session.specs.Boot.{StartedAt, Started, Reads, used, Start, stringAt, Gives, Same, StartOf, VerifiedBoot}
 use Rattle.session.proofs.Frames.{reads-on}
@@ -139,7 +141,7 @@ module _ (S : Session) where
           digest = digestOf (t .reading .load) (t .reading .blocks);
           used = used (t .reading);
           uss = loadIn (t .reading .load) .uss;
-          uds-length = bytes-length (t .entry .call .uds);
+          uds-length = bytes-length 32 (t .entry .call .uds);
           measuredId-length = id-length (S .rec) (begins .size);
           digest-length = digest-length _;
           uss-length = uss-length (t .reading .load) (t .reading .loads .0);

@@ -12,7 +12,8 @@ use Rattle.protocol.specs.Commands.{commandIn, loadIn, carriedBy}
 use Rattle.protocol.proofs.Proved.{protocol}
 use Rattle.loader.specs.Machine.{actionWaiting, actionLoading}
 use Rattle.loader.proofs.Ranges.{never}
-use Rattle.session.specs.Reading.{All, bodyOf, Query, Load, GoodLoad, Opens, Block, carried, sizeOf}
+use Rattle.endian.specs.Lists.{All}
+use Rattle.session.specs.Reading.{bodyOf, Query, Load, GoodLoad, Opens, Block, carried, sizeOf}
 use Rattle.loader.specs.declared.acting.Action.{Action}
 use Rattle.loader.specs.declared.acting.Action.the-variants as action
 

@@ -7,17 +7,18 @@ use mathlib.Core.List.{List, [], _∷_}
 use native.Mathlib.Omega.{arith}
 use lib.ListN.{length, getD, take, drop, length-take, length-drop}
 use lib.Seq.{ext-getD}
-use Rattle.blake2s.specs.Rfc7693.{initial, compressions, compressed, blake2s, bytes}
-use Rattle.blake2s.proofs.Lists.{getD-each}
-use Rattle.loader.proofs.Bytes.{bytes-length}
+use Rattle.blake2s.specs.Rfc7693.{initial, compressions, compressed, blake2s}
+use Rattle.endian.specs.Endian.{bytes, firstBytes}
+use Rattle.endian.proofs.Lists.{getD-each}
+use Rattle.endian.proofs.Words.{bytes-length}
 use Rattle.loader.proofs.Ranges.{never}
 use Rattle.protocol.specs.Commands.{loadIn}
 use Rattle.session.specs.Reading.{Load, measuredId}
-use Rattle.session.specs.Session.{Words}
+use Rattle.endian.specs.Lists.{Words}
 
 -- byte j of word k
 byte-of : (h : List ℕ) (k j : ℕ) → k < 8 → j < 4 → getD (bytes h) (4 * k + j) 0 ≡ getD h k 0 / 2 ^ (8 * j) % 2 ^ 8
-unfolding bytes
+unfolding firstBytes
 byte-of h k j l n =
     let a : (4 * k + j) / 4 ≡ k = omega arith in
     let b : (4 * k + j) % 4 ≡ j = omega arith in
@@ -57,7 +58,7 @@ same-words h h′ l l′ w w′ e =
 
 pub digest-length : (msg : List ℕ) → length (blake2s [] msg 32) ≡ 32
 unfolding blake2s
-digest-length msg = first-32 (bytes (state msg)) (bytes-length (state msg))
+digest-length msg = first-32 (bytes (state msg)) (bytes-length 32 (state msg))
   where
     state : List ℕ → List ℕ
     state m = compressed (initial 0 32) (compressions [] m)

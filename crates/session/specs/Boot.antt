@@ -7,16 +7,17 @@ use mathlib.Core.Bool.{Bool, true, cond}
 use mathlib.Core.Option.{Option, none, some}
 use mathlib.Core.List.{List, []}
 use lib.ListN.{length, getD, take}
-use Rattle.blake2s.specs.Rfc7693.{blake2s, bytes}
+use Rattle.blake2s.specs.Rfc7693.{blake2s}
+use Rattle.endian.specs.Endian.{bytes}
 use Rattle.cdi.specs.Cdi.{measurementOf, cdiString}
 use Rattle.protocol.specs.Commands.{loadIn, usesUss}
 use Rattle.protocol.specs.Replies.{sent, digestReply, putIn}
 use Rattle.record.specs.Record.{typeField, numberIn}
-use Rattle.loader.specs.State.{zeros}
+use Rattle.endian.specs.Lists.{zeros, Words}
 use Rattle.loader.specs.Answers.{refused, started}
 use Rattle.loader.specs.Begin.{beginning}
 use Rattle.session.specs.Reading.{sizeOf, programOf, digestOf, Allowed, chained, measuredId, Starting}
-use Rattle.session.specs.Session.{Words, Entry, Among, isAccepted, receivedBytes, Session, allOf, acceptedOf, hasEnded, refusalIn}
+use Rattle.session.specs.Session.{Entry, Among, isAccepted, receivedBytes, Session, allOf, acceptedOf, hasEnded, refusalIn}
 
 -- e is an accepted call of the session that answered a start
 pub record StartedAt (S : Session) (e : Entry) : Type 0 where

@@ -1,17 +1,18 @@
 -- The server's half against the head: change request 1. The frames are those that the promise of `make_frame` cites, the replies are read as that of
 -- `read_reply` says, and the head is a session of specs/Session.antt. The proof is `client-load` in proofs/Client.antt.
-use Prim.Native.Nat.{ℕ, zero, suc, _/_, _%_, _<_, _≤_}
+use Prim.Native.Nat.{ℕ, zero, suc, _/_, _%_, _≤_}
 use mathlib.Core.Path.{_≡_}
 use mathlib.Core.Logic.{_↔_, _⊎_}
 use mathlib.Core.Bool.{true, false, cond}
 use mathlib.Core.List.{List, [], _∷_, _++_}
 use lib.Dec.{eqb}
 use lib.ListN.{length, getD, take, drop, replicate}
-use Rattle.blake2s.specs.Rfc7693.{blake2s, bytes}
+use Rattle.blake2s.specs.Rfc7693.{blake2s}
+use Rattle.endian.specs.Endian.{bytes}
 use Rattle.cdi.specs.Cdi.{cdiString}
 use Rattle.framing.specs.Header.{good, headerAt}
 use Rattle.protocol.specs.Commands.{firmware, loadIn, carriedBy, blocksFor, placeOf}
-use Rattle.protocol.specs.Replies.{filled}
+use Rattle.endian.specs.Lists.{padded, Bytes, Words}
 use Rattle.protocol.specs.Theorems.{loadWith}
 use Rattle.record.specs.Record.{typeField, numberIn}
 use Rattle.loader.specs.Answers.{started}
@@ -20,13 +21,8 @@ use Rattle.client.specs.Frames.{refusal, commandFrame}
 use Rattle.client.specs.Replies.{takingAs, taking}
 use Rattle.client.specs.declared.Secret.{Secret}
 use Rattle.session.specs.Reading.{joined, Load, GoodLoad, Block, Allowed, chained, measuredId}
-use Rattle.session.specs.Session.{Words, Entry, Among, isAccepted, receivedBytes, Session, allOf, acceptedOf, hasEnded}
+use Rattle.session.specs.Session.{Entry, Among, isAccepted, receivedBytes, Session, allOf, acceptedOf, hasEnded}
 use Rattle.session.specs.Boot.{Start}
-
--- each number of a list is below 2^8
-abbrev pub Bytes : List ℕ → Type 0
-Bytes [] = Unit {0}
-Bytes (b ∷ bs) = (b < 256) × Bytes bs
 
 module _ (program : List ℕ) (id : ℕ) (secret : Secret) where
   -- the frames that are made: frame 0 is the load, frame k block k - 1
@@ -62,7 +58,7 @@ module _ (program : List ℕ) (id : ℕ) (secret : Secret) where
   pub record IsBlock (k : ℕ) (f : List ℕ) : Type 0 where
     pub header : headerAt (getD f 0 0) ≡ good id firmware 128
     pub block : Block f
-    pub carries : carriedBy f ≡ filled 127 (take 127 (drop (placeOf k) program))
+    pub carries : carriedBy f ≡ padded 127 (take 127 (drop (placeOf k) program))
 
   -- the frames that are made are these, and no other bytes are
   pub record ReadAs : Type 0 where

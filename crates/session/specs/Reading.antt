@@ -7,15 +7,11 @@ use mathlib.Core.Bool.{Bool, true, false, cond}
 use mathlib.Core.List.{List, [], _∷_, _++_}
 use lib.Dec.{eqb}
 use lib.ListN.{length, getD, take, drop}
+use Rattle.endian.specs.Lists.{All}
 use Rattle.framing.specs.Header.{good, headerAt, inField, endpoint}
 use Rattle.blake2s.specs.Rfc7693.{blake2s}
 use Rattle.protocol.specs.Commands.{firmware, commandIn, loadIn, goodLoad, carriedBy, blocksFor}
 use Rattle.record.specs.Record.{typeField, maskField, requiredField, measuredIdField, fieldOf, numberIn, resetSeed}
-
--- each frame of a list is such
-abbrev pub All : (List ℕ → Type 0) → List (List ℕ) → Type 0
-All P [] = Unit {0}
-All P (f ∷ fs) = P f × All P fs
 
 -- a good frame: a header with bits 7 and 2 zero, then a body of the length that it gives; it is whole when all of that body is there
 pub record Good (f : List ℕ) : Type 0 where

@@ -1,22 +1,18 @@
 -- A session: an accepted begin, then calls of `receive` one after another. The definitions are those that the promises of `begin` and `receive`
 -- cite (`beginning`, `step`).
-use Prim.Native.Nat.{ℕ, _<_}
+use Prim.Native.Nat.{ℕ}
 use mathlib.Core.Path.{_≡_}
 use mathlib.Core.Logic.{_⊎_}
 use mathlib.Core.Bool.{Bool, true, false, not, cond, _||_}
 use mathlib.Core.List.{List, [], _∷_, _++_}
 use lib.Dec.{eqb, ltb}
 use lib.ListN.{length}
+use Rattle.endian.specs.Lists.{Words}
 use Rattle.record.specs.Record.{typeField, numberIn}
 use Rattle.loader.specs.Answers.{Report, refused, continues, stopped, started, Outcome}
 use Rattle.loader.specs.Begin.{beginning}
 use Rattle.loader.specs.Machine.{step}
 use Rattle.loader.specs.declared.State.{State}
-
--- each number of a list is below 2^32
-abbrev pub Words : List ℕ → Type 0
-Words [] = Unit {0}
-Words (w ∷ ws) = (w < 4294967296) × Words ws
 
 -- what a call gets besides the state: byte, reply room, RAM and UDS may be anything. That a word of the UDS has 32 bits is its type in the code
 pub record Call : Type 0 where

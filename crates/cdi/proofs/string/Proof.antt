@@ -4,7 +4,7 @@ use mathlib.Core.List.{_++_}
 use native.Mathlib.Omega.{arith}
 use lib.ListN.{length, drop, set, replicate, length-set, length-append}
 use borrow.Rule.Slice.PartMut.{putMid, same-len-mid}
-use Rattle.blake2s.proofs.Lists.{copied}
+use Rattle.endian.proofs.Lists.{copied}
 use Rattle.cdi.proofs.Parts.{whole}
 use borrow.Author.Needs.{needs}
 use Rattle.cdi.proofs.string.Statement.{statement}

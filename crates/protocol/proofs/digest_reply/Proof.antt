@@ -1,6 +1,6 @@
 -- The bytes stand after code and status, and what was not written is zero.
 use lib.ListN.{length, replicate}
-use Rattle.blake2s.proofs.Lists.{copied}
+use Rattle.endian.proofs.Lists.{copied}
 use mathlib.Core.Path.{_≡_, _∙_}
 use Rattle.protocol.specs.Replies.{digestReply}
 use borrow.Author.Needs.{needs}

@@ -1,5 +1,5 @@
 -- Position k of a frame is place k - 1 of its body.
-use Rattle.blake2s.specs.Rfc7693.{word}
+use Rattle.endian.specs.Endian.{word}
 use Rattle.protocol.specs.Commands.{loadIn}
 use borrow.Author.Needs.{needs}
 use Rattle.protocol.proofs.read_load.Statement.{statement}
@@ -7,7 +7,7 @@ use Rattle.protocol.proofs.read_load.Tie as tie
 
 returns : tie.Need-returns
 unfolding loadIn word
-returns c = rw (c .uss-in .ensures, c .before .number .ensures)
+returns c = rw (c .uss-in .ensures, c .before .word .ensures)
 
 pub read-load-spec : {M : Type 1} → statement M
 read-load-spec =

@@ -1,7 +1,7 @@
 -- The part of the body, copied over zeros.
 use mathlib.Core.Path.{_≡_, _∙_}
 use lib.ListN.{length, take, drop, replicate, length-take, length-drop}
-use Rattle.blake2s.proofs.Lists.{copied}
+use Rattle.endian.proofs.Lists.{copied}
 use borrow.Author.Needs.{needs}
 use Rattle.protocol.proofs.uss_in.Statement.{statement}
 use Rattle.protocol.proofs.uss_in.Tie as tie

@@ -15,9 +15,9 @@ returns c =
     rw (
       c .part2 .ensures,
       p .part .ensures,
-      m .number2 .ensures,
+      m .word2 .ensures,
       t .type-of .ensures,
-      t .before .number .ensures,
+      t .before .word .ensures,
       word-at l 0,
       word-at l 4,
     )

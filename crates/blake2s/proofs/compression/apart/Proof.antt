@@ -1,7 +1,7 @@
 -- A vector is the list of its sixteen words.
 use mathlib.Core.Path.{_≡_}
 use lib.ListN.{length}
-use Rattle.blake2s.proofs.Lists.{each-of}
+use Rattle.endian.proofs.Lists.{each-of}
 use borrow.Author.Needs.{needs}
 use Rattle.blake2s.proofs.compression.apart.Statement.{statement}
 use Rattle.blake2s.proofs.compression.apart.Tie as tie

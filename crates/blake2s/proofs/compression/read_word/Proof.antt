@@ -1,12 +1,12 @@
 -- The four bytes are those of the definition.
-use Rattle.blake2s.specs.Rfc7693.{word}
+use Rattle.endian.specs.Endian.{word}
 use borrow.Author.Needs.{needs}
 use Rattle.blake2s.proofs.compression.read_word.Statement.{statement}
 use Rattle.blake2s.proofs.compression.read_word.Tie as tie
 
 returns : tie.Need-returns
 unfolding word
-returns c = c .le4 .ensures
+returns c = c .word .ensures
 
 pub read-word-spec : {M : Type 1} → statement M
 read-word-spec =

@@ -1,7 +1,8 @@
 -- What waits is compressed as the final block, and the hash is the front of the state.
-use mathlib.Core.Path.{_≡_}
+use mathlib.Core.Path.{_≡_, sym}
 use native.Mathlib.Omega.{arith}
 use lib.ListN.{length}
+use Rattle.endian.proofs.Words.{bytes-front}
 use Rattle.blake2s.specs.Stream.{closed}
 use Rattle.blake2s.proofs.Blocks.{blocks-one}
 use Rattle.blake2s.proofs.Contexts.{total-bound}
@@ -32,6 +33,7 @@ returns c =
       b .waiting-block .ensures,
       z .pre .0,
     )
+    (sym (bytes-front (z .args .c .size) 32 _ (z .pre .1)))
 
 pub closed-spec : {M : Type 1} → statement M
 closed-spec =
@@ -41,6 +43,7 @@ closed-spec =
     (λ c κs. search needs)
     (λ c. search needs)
     compress-blocks-requires
+    (λ c. search needs)
     (λ c κs. search needs)
     (λ c. search needs)
     returns)

@@ -5,7 +5,7 @@ use native.Mathlib.Omega.{arith}
 use lib.ListN.{length, take, drop, length-take, length-drop}
 use lib.Seq.{length-take-le}
 use Rattle.blake2s.specs.Stream.{earlier}
-use Rattle.blake2s.proofs.Lists.{drop-whole}
+use Rattle.endian.proofs.Lists.{drop-whole}
 use Rattle.blake2s.proofs.Blocks.{blocks-one, after-blocks}
 use Rattle.blake2s.proofs.Contexts.{total-bound, extended-long}
 use borrow.Author.Needs.{needs}

@@ -2,14 +2,12 @@
 use mathlib.Core.Path.{refl, _∙_}
 use mathlib.Core.List.{[]}
 use native.Mathlib.Omega.{arith}
-use Rattle.blake2s.specs.Rfc7693.{padded}
 use Rattle.blake2s.proofs.Contexts.{paste-padded}
 use borrow.Author.Needs.{needs}
 use Rattle.blake2s.proofs.stream.pad.Statement.{statement}
 use Rattle.blake2s.proofs.stream.pad.Tie as tie
 
 returns : tie.Need-returns
-unfolding padded
 returns c = c .append .ensures ∙ paste-padded [] (c .before .before .args .s .now) 0 refl (omega arith)
 
 pub pad-spec : {M : Type 1} → statement M

@@ -2,7 +2,7 @@
 use mathlib.Core.Path.{_≡_, _∙_}
 use native.Mathlib.Omega.{arith}
 use lib.ListN.{length, replicate}
-use Rattle.blake2s.proofs.Lists.{copied}
+use Rattle.endian.proofs.Lists.{copied}
 use Rattle.client.specs.Frames.{loadBody}
 use borrow.Author.Needs.{needs}
 use Rattle.client.proofs.frames.load_body.Statement.{statement}

@@ -3,7 +3,7 @@ use Prim.Native.Nat.{_+_}
 use mathlib.Core.Path.{sym, ap, _∙_}
 use lib.Seq.{drop-drop}
 use borrow.Author.Tests.{eq-eqb, ne-eqb, le-leb, lt-leb, not-true, not-false}
-use Rattle.blake2s.proofs.Lists.{drop-whole}
+use Rattle.endian.proofs.Lists.{drop-whole}
 use Rattle.client.specs.Replies.{allZero, isExpected}
 use borrow.Author.Needs.{needs}
 use Rattle.client.proofs.replies.is_expected.Statement.{statement}

@@ -1,7 +1,7 @@
 -- The copy fills the array whole.
 use mathlib.Core.Path.{_∙_}
 use lib.ListN.{replicate}
-use Rattle.blake2s.proofs.Lists.{copied}
+use Rattle.endian.proofs.Lists.{copied}
 use borrow.Author.Needs.{needs}
 use Rattle.loader.proofs.beginning.record_bytes.Statement.{statement}
 use Rattle.loader.proofs.beginning.record_bytes.Tie as tie

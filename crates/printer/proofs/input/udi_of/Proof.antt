@@ -3,7 +3,7 @@ use mathlib.Core.Path.{_≡_, _∙_}
 use native.Mathlib.Omega.{arith}
 use lib.ListN.{length, take, drop, replicate, length-take, length-drop}
 use lib.Seq.{take-all}
-use Rattle.blake2s.proofs.Lists.{copied}
+use Rattle.endian.proofs.Lists.{copied}
 use borrow.Author.Needs.{needs}
 use Rattle.printer.proofs.input.udi_of.Statement.{statement}
 use Rattle.printer.proofs.input.udi_of.Tie as tie

@@ -1,0 +1,50 @@
+-- The invariant bounds the index and keeps the lengths of what is lent; how many bytes are left is the measure.
+use Prim.Native.Nat.{_≤_, _-_}
+use lib.ListN.{length}
+use borrow.Author.Needs.{needs}
+use native.Mathlib.Omega.{arith}
+use mathlib.Core.Path.{_≡_, refl}
+use Rattle.bench_load.proofs.cable.play.Statement.{statement}
+use Rattle.bench_load.proofs.cable.play.Tie as tie
+
+abbrev Inv-loop : tie.InvT-loop
+Inv-loop bytes room₀ ram₀ words₀ last₀ i₀ room ram words last i =
+    (i ≤ length bytes) × (length room ≡ length room₀) × (length ram ≡ length ram₀) × (length words ≡ length words₀)
+
+abbrev μ-loop : tie.MeasureT-loop
+μ-loop bytes room₀ ram₀ words₀ last₀ i₀ room ram words last i = length bytes - i
+
+-- `turn` is where the loop's test has just let in the turn that ends here.
+add-i : tie.Need-add-i Inv-loop μ-loop
+add-i c =
+    let turn = c .before .before .before .before .before .before .before .before .before .before .before in
+    omega (arith, turn .loop-test .taken)
+
+loop-less : tie.Need-loop-less Inv-loop μ-loop
+loop-less c =
+    let turn = c .before .before .before .before .before .before .before .before .before .before .before in
+    omega (arith, turn .loop-test .taken)
+
+loop-again : tie.Need-loop-again Inv-loop μ-loop
+loop-again c =
+    let turn = c .before .before .before .before .before .before .before .before .before .before .before in
+    let inv = turn .before .loop .inv in
+    (omega (arith, turn .loop-test .taken), search (needs, inv .1), search (needs, inv .2), search (needs, inv .3))
+
+pub play-spec : {M : Type 1} → statement M
+play-spec =
+    tie.close
+    (tie.spec
+    Inv-loop
+    μ-loop
+    (λ c κs. search needs)
+    (λ c. (search needs, refl, refl, refl))
+    (λ c. search needs)
+    (λ c κs. search needs)
+    add-i
+    loop-less
+    loop-again
+    (λ c. search needs)
+    (λ c. search needs)
+    (λ c. search needs)
+    (λ c. search needs))

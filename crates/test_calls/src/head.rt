@@ -1,0 +1,141 @@
+// Begin and receive.
+use super::Kept;
+use super::image;
+use loader::Answer;
+use loader::Received;
+use loader::State;
+ghost use Prim.Native.Nat.{_≤_};
+
+// A length of two bytes, or the most if that is less.
+fn length(low: u8, high: u8, most: usize) -> usize
+    ensures { λ r. ⌜ r ≤ most ⌝ }
+{
+    let n = low as usize + high as usize * 256;
+    if n <= most { n } else { most }
+}
+
+// Bytes 4 and 5 say how many bytes of the record are lent, which stands from byte 8 on; 268 to 271 are the RAM's length, 272 to 279 the
+// UDI.
+pub fn begin(k: Kept, c: [u8; 320]) -> Kept {
+    let n = length(c[4], c[5], 257);
+    let end = 8 + n;
+    let b = loader::begin(&c[8..end], image::udi(c, 272), image::word(c, 268) as usize);
+    let answer = b.answer;
+    let state = b.state;
+    let ram = k.ram;
+    let words = k.words;
+    let context = k.context;
+    write_answer(answer);
+    image::write_state(state);
+    Kept {
+        state,
+        ram,
+        words,
+        context,
+    }
+}
+
+// What is kept, with the state of this call where byte 6 is not 0, and where byte 7 is not 0 with 0xaa in RAM and the words of this call.
+pub fn set(k: Kept, c: [u8; 320]) -> Kept {
+    let context = k.context;
+    let mut state = k.state;
+    let mut ram = k.ram;
+    let mut words = k.words;
+    if c[6] != 0 {
+        state = image::state(c);
+    }
+    if c[7] != 0 {
+        ram = [0xaa; 301];
+        words = words_in(c);
+    }
+    Kept {
+        state,
+        ram,
+        words,
+        context,
+    }
+}
+
+// Bytes 8 to 43.
+fn words_in(c: [u8; 320]) -> [u32; 9] {
+    [
+        image::word(c, 8),
+        image::word(c, 12),
+        image::word(c, 16),
+        image::word(c, 20),
+        image::word(c, 24),
+        image::word(c, 28),
+        image::word(c, 32),
+        image::word(c, 36),
+        image::word(c, 40),
+    ]
+}
+
+// Byte 1 is received, with so many bytes of room (byte 2), words (byte 3) and bytes of RAM (bytes 4 and 5) lent.
+pub fn receive(k: Kept, c: [u8; 320]) -> Kept {
+    let context = k.context;
+    let mut ram = k.ram;
+    let mut words = k.words;
+    let mut room = [0xeeu8; 160];
+    let r = lend(k.state, c, &mut room, &mut ram, &mut words);
+    let state = r.state;
+    write_received(r);
+    image::write(&room);
+    image::write(&ram);
+    write_words(words);
+    Kept {
+        state,
+        ram,
+        words,
+        context,
+    }
+}
+
+fn lend(
+    s: State,
+    c: [u8; 320],
+    room: &mut [u8; 160],
+    ram: &mut [u8; 301],
+    words: &mut [u32; 9],
+) -> Received {
+    let a = length(c[2], 0, 160);
+    let b = length(c[4], c[5], 301);
+    let n = length(c[3], 0, 9);
+    loader::receive(s, c[1], &mut room[..a], &mut ram[..b], &mut words[..n])
+}
+
+// ---- what is written
+
+fn write_received(r: Received) {
+    let answer = r.answer;
+    let state = r.state;
+    let cdi = r.cdi;
+    let digest = r.digest;
+    write_answer(answer);
+    image::write_length(r.reply);
+    image::write(&cdi);
+    image::write(&digest);
+    image::write_state(state);
+}
+
+// A letter, and two numbers.
+fn write_answer(a: Answer) {
+    match a {
+        Answer::Continue => write_numbers(b'W', 0, 0),
+        Answer::Refused(why) => write_numbers(b'X', loader::refusal_number(why) as u32, 0),
+        Answer::Stopped(why) => write_numbers(b'F', loader::stop_number(why) as u32, 0),
+        Answer::Started { address, size } => write_numbers(b'S', size, address),
+    }
+}
+
+fn write_numbers(letter: u8, a: u32, b: u32) {
+    image::write_byte(letter);
+    image::write_word(a);
+    image::write_word(b);
+}
+
+fn write_words(words: [u32; 9]) {
+    let mut b = [0u8; 36];
+    endian::write_bytes(&words, &mut b);
+    image::write(&b);
+}

@@ -1,0 +1,161 @@
+// Numbers and states as bytes: a state has 250.
+use libc::STDOUT_FILENO;
+use loader::Config;
+use loader::Incoming;
+use loader::Phase;
+use loader::Progress;
+use loader::State;
+ghost use Prim.Native.Nat.{_+_, _≤_};
+
+// The state before the first call, which every call refuses.
+pub fn none() -> State {
+    state([0; 320])
+}
+
+// The word at a place.
+pub fn word(c: [u8; 320], at: usize) -> u32
+    requires { ⌜ at + 4 ≤ 320 ⌝ }
+{
+    endian::word(c[at], c[at + 1], c[at + 2], c[at + 3])
+}
+
+// The 32 bytes at a place.
+pub fn part(c: [u8; 320], at: usize) -> [u8; 32]
+    requires { ⌜ at + 32 ≤ 320 ⌝ }
+{
+    let mut p = [0u8; 32];
+    let end = at + 32;
+    bytes::copy(&c[at..end], &mut p);
+    p
+}
+
+pub fn udi(c: [u8; 320], at: usize) -> [u8; 8]
+    requires { ⌜ at + 8 ≤ 320 ⌝ }
+{
+    let mut p = [0u8; 8];
+    let end = at + 8;
+    bytes::copy(&c[at..end], &mut p);
+    p
+}
+
+fn body(c: [u8; 320]) -> [u8; 128] {
+    let mut p = [0u8; 128];
+    bytes::copy(&c[46..174], &mut p);
+    p
+}
+
+// A call's state: its bytes 44 to 293.
+pub fn state(c: [u8; 320]) -> State {
+    State {
+        incoming: Incoming {
+            header: c[44],
+            got: c[45],
+            body: body(c),
+        },
+        config: config(c),
+        progress: progress(c),
+    }
+}
+
+fn config(c: [u8; 320]) -> Config {
+    Config {
+        ram_len: word(c, 174) as usize,
+        verify: c[178] != 0,
+        required: part(c, 179),
+        chained: c[211] != 0,
+        measured_id: part(c, 212),
+        udi: udi(c, 244),
+    }
+}
+
+fn progress(c: [u8; 320]) -> Progress {
+    Progress {
+        phase: phase(c[252]),
+        size: word(c, 253),
+        block: word(c, 257),
+        uss_used: c[261] != 0,
+        uss: part(c, 262),
+    }
+}
+
+fn phase(n: u8) -> Phase {
+    match n {
+        0 => Phase::Waiting,
+        1 => Phase::Loading,
+        2 => Phase::Started,
+        _ => Phase::Stopped,
+    }
+}
+
+// ---- what is written
+
+pub fn write(s: &[u8]) {
+    io::write_all(STDOUT_FILENO, s);
+}
+
+pub fn write_byte(b: u8) {
+    let one = [b];
+    write(&one);
+}
+
+pub fn write_word(n: u32) {
+    let four = [
+        endian::byte(n, 0),
+        endian::byte(n, 1),
+        endian::byte(n, 2),
+        endian::byte(n, 3),
+    ];
+    write(&four);
+}
+
+pub fn write_length(n: usize) {
+    write_word((n % 4294967296) as u32);
+}
+
+pub fn write_bool(b: bool) {
+    write_byte(if b { 1 } else { 0 });
+}
+
+pub fn write_state(s: State) {
+    write_incoming(s.incoming);
+    write_config(s.config);
+    write_progress(s.progress);
+}
+
+fn write_incoming(i: Incoming) {
+    let body = i.body;
+    write_byte(i.header);
+    write_byte(i.got);
+    write(&body);
+}
+
+fn write_config(c: Config) {
+    let required = c.required;
+    let measured_id = c.measured_id;
+    let udi = c.udi;
+    write_length(c.ram_len);
+    write_bool(c.verify);
+    write(&required);
+    write_bool(c.chained);
+    write(&measured_id);
+    write(&udi);
+}
+
+fn write_progress(p: Progress) {
+    let uss = p.uss;
+    let phase = p.phase;
+    write_byte(number(phase));
+    write_word(p.size);
+    write_word(p.block);
+    write_bool(p.uss_used);
+    write(&uss);
+}
+
+fn number(phase: Phase) -> u8 {
+    match phase {
+        Phase::Waiting => 0,
+        Phase::Loading => 1,
+        Phase::Started => 2,
+        Phase::Stopped => 3,
+    }
+}

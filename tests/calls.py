@@ -1,0 +1,104 @@
+"""Calls for the program `test_calls`, and all that each must give: the program makes them one after the other and writes every value that a
+call hands back and every byte that it was lent.
+
+A `Calls` gathers calls with what an independent program says of each; `play` runs the program and says where it differs.
+"""
+import struct
+import subprocess
+from pathlib import Path
+
+from head import ADDRESS
+
+PROGRAM = Path(__file__).parent.parent / "target" / "bin" / "test_calls"
+SIZE = 320  # of a call
+
+ROOM, RAM, WORDS = 160, 301, 9  # what there is to lend from
+PHASES = ["waiting", "loading", "started", "stopped"]
+BEGIN, RECEIVE, HASH_BEGIN, HASH_UPDATE, HASH_FINISH, READ_HEADER, WRITE_HEADER, DERIVE = range(8)
+
+
+def state_bytes(head):
+    """A state as the program reads and writes it."""
+    frame = struct.pack("<BB128s", head.frame.header, head.frame.got, bytes(head.frame.body))
+    config = struct.pack("<IB32sB32s8s", head.ram, head.verify, head.required, head.chained, head.measured_id, head.udi)
+    return frame + config + struct.pack("<BIIB32s", PHASES.index(head.phase), head.size, head.block, head.uss_used, head.uss)
+
+
+def answer_bytes(answer):
+    return struct.pack("<BII", ord(answer.kind), answer.number, ADDRESS if answer.kind == "S" else 0)
+
+
+class Calls:
+    def __init__(self):
+        self.data = []
+        self.wanted = []  # for each call: what it is, and what must be written, as pairs of a name and bytes
+
+    def add(self, what, kind, call, *fields):
+        self.data.append((bytes([kind]) + call).ljust(SIZE, b"\0"))
+        self.wanted.append((what, fields))
+
+    # ---- the head
+
+    def begin(self, what, record, udi, ram, answer, head):
+        call = struct.pack("<xxxHxx257sxxxI8s", len(record), bytes(record), ram, udi)
+        self.add(what, BEGIN, call, ("answer", answer_bytes(answer)), ("state", state_bytes(head)))
+
+    def receive(self, what, byte, lent, state, memory, answer, head, room, ram, words):
+        """lent: the lengths of room, RAM and words. state and memory are bytes for the call to set before it, or nothing to go on with what
+        is there. The rest is what there must be after it."""
+        call = struct.pack("<BBBHBB36s250s", byte, lent[0], lent[2], lent[1], state is not None, memory is not None, memory or b"", state or b"")
+        fields = [("answer", answer_bytes(answer)), ("reply length", struct.pack("<I", answer.reply)), ("CDI", answer.cdi), ("digest", answer.digest)]
+        fields += [("state", state_bytes(head)), ("room", bytes(room)), ("RAM", bytes(ram)), ("words", struct.pack("<9I", *words))]
+        self.add(what, RECEIVE, call, *fields)
+
+    # ---- a hash in parts, headers and the CDI
+
+    def hash_begin(self, what, key, size, message, number, context):
+        """message: how many bytes the context is then made to have taken, in place of a long hash, or nothing."""
+        call = struct.pack("<BBBI", len(key), size, message is not None, message or 0) + key
+        self.add(what, HASH_BEGIN, call, ("answer", struct.pack("<I", number)), *context)
+
+    def hash_update(self, what, part, number, context):
+        self.add(what, HASH_UPDATE, struct.pack("<B6x", len(part)) + part, ("answer", struct.pack("<I", number)), *context)
+
+    def hash_finish(self, what, size, number, out):
+        self.add(what, HASH_FINISH, bytes([size]), ("answer", struct.pack("<I", number)), ("output", out.ljust(255, b"\xaa")))
+
+    def read_header(self, byte, *fields):
+        self.add(f"header {byte:02x}", READ_HEADER, bytes([byte]), ("fields", bytes(fields)))
+
+    def write_header(self, id, endpoint, length, header):
+        call = struct.pack("<BBxQ", id, endpoint, length)
+        self.add(f"header of ID {id}, endpoint {endpoint}, length {length}", WRITE_HEADER, call, ("header", bytes([header])))
+
+    def derive(self, what, chained, used, parts, cdi):
+        self.add(what, DERIVE, struct.pack("<BB5x", chained, used) + b"".join(parts), ("CDI", cdi))
+
+    # ---- the program
+
+    def input(self):
+        return struct.pack("<I", len(self.data)) + b"".join(self.data)
+
+    def output(self):
+        return b"".join(want for _, fields in self.wanted for _, want in fields)
+
+    def answers(self):
+        """Each answer as a letter and its number; a start without its size."""
+        for _, ((name, want), *_) in self.wanted:
+            letter, number = chr(want[0]), int.from_bytes(want[1:5], "little")
+            yield "S" if letter == "S" else f"{letter} {number}"
+
+    def play(self):
+        """What is wrong, or nothing."""
+        done = subprocess.run([PROGRAM], input=self.input(), stdout=subprocess.PIPE)
+        if what := self.difference(done.stdout):
+            return what
+        return None if done.returncode == 0 else f"exit status {done.returncode}"
+
+    def difference(self, got):
+        for what, fields in self.wanted:
+            for name, want in fields:
+                part, got = got[: len(want)], got[len(want) :]
+                if part != want:
+                    return f"{what}: {name}\n  got      {part.hex()}\n  expected {want.hex()}"
+        return f"{len(got)} bytes too many" if got else None
