@@ -7,7 +7,7 @@ use loader::State;
 ghost use Prim.Native.Nat.{_≤_};
 
 // A length of two bytes, or the most if that is less.
-fn length(low: u8, high: u8, most: usize) -> usize
+pub fn length(low: u8, high: u8, most: usize) -> usize
     ensures { λ r. ⌜ r ≤ most ⌝ }
 {
     let n = low as usize + high as usize * 256;
@@ -18,8 +18,9 @@ fn length(low: u8, high: u8, most: usize) -> usize
 // UDI.
 pub fn begin(k: Kept, c: [u8; 320]) -> Kept {
     let n = length(c[4], c[5], 257);
-    let end = 8 + n;
-    let b = loader::begin(&c[8..end], image::udi(c, 272), image::word(c, 268) as usize);
+    let udi = image::udi(c, 272);
+    let ram_len = image::word(c, 268) as usize;
+    let b = loader::begin(image::first(&c[8..], n), udi, ram_len);
     let answer = b.answer;
     let state = b.state;
     let ram = k.ram;
@@ -74,15 +75,15 @@ fn words_in(c: [u8; 320]) -> [u32; 9] {
 // Byte 1 is received, with so many bytes of room (byte 2), words (byte 3) and bytes of RAM (bytes 4 and 5) lent.
 pub fn receive(k: Kept, c: [u8; 320]) -> Kept {
     let context = k.context;
-    let mut ram = k.ram;
-    let mut words = k.words;
-    let mut room = [0xeeu8; 160];
-    let r = lend(k.state, c, &mut room, &mut ram, &mut words);
-    let state = r.state;
-    write_received(r);
-    image::write(&room);
-    image::write(&ram);
-    write_words(words);
+    let before = k.ram;
+    let secret = k.words;
+    let room_len = length(c[2], 0, 160);
+    let words_len = length(c[3], 0, 9);
+    let ram_len = length(c[4], c[5], 301);
+    let left = call(k.state, before, secret, c[1], room_len, ram_len, words_len);
+    let state = left.state;
+    let ram = left.ram;
+    let words = left.words;
     Kept {
         state,
         ram,
@@ -91,17 +92,25 @@ pub fn receive(k: Kept, c: [u8; 320]) -> Kept {
     }
 }
 
-fn lend(
-    s: State,
-    c: [u8; 320],
-    room: &mut [u8; 160],
-    ram: &mut [u8; 301],
-    words: &mut [u32; 9],
-) -> Received {
-    let a = length(c[2], 0, 160);
-    let b = length(c[4], c[5], 301);
-    let n = length(c[3], 0, 9);
-    loader::receive(s, c[1], &mut room[..a], &mut ram[..b], &mut words[..n])
+// What a call leaves.
+struct Left {
+    state: State,
+    ram: [u8; 301],
+    words: [u32; 9],
+}
+
+// The fronts of a room, of RAM and of the words are lent.
+fn call(s: State, r: [u8; 301], w: [u32; 9], byte: u8, a: usize, b: usize, n: usize) -> Left
+    requires { ⌜ (a ≤ 160) × (b ≤ 301) × (n ≤ 9) ⌝ }
+{
+    let mut room = [0xeeu8; 160];
+    let mut ram = r;
+    let mut words = w;
+    let x = loader::receive(s, byte, &mut room[..a], &mut ram[..b], &mut words[..n]);
+    let state = x.state;
+    write_received(x);
+    write_lent(room, ram, words);
+    Left { state, ram, words }
 }
 
 // ---- what is written
@@ -132,6 +141,12 @@ fn write_numbers(letter: u8, a: u32, b: u32) {
     image::write_byte(letter);
     image::write_word(a);
     image::write_word(b);
+}
+
+fn write_lent(room: [u8; 160], ram: [u8; 301], words: [u32; 9]) {
+    image::write(&room);
+    image::write(&ram);
+    write_words(words);
 }
 
 fn write_words(words: [u32; 9]) {
