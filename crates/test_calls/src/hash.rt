@@ -1,5 +1,4 @@
 // A hash in parts.
-use super::Kept;
 use super::head;
 use super::image;
 use blake2s::Answer;
@@ -18,59 +17,61 @@ pub fn none() -> Context {
     }
 }
 
+pub fn call(x: Context, c: [u8; 320]) -> Context {
+    match c[0] {
+        2 => begin(c),
+        3 => update(x, c),
+        4 => finish(x, head::length(c[1], 0, 255)),
+        _ => x,
+    }
+}
+
 // Byte 1 says how many bytes of the key are lent, which stands from byte 8 on, and byte 2 how many bytes the hash is to have. Where byte 3 is
 // not 0 the context is made to have taken as many bytes as 4 to 7 say, in place of a hash of 4 GiB.
-pub fn begin(k: Kept, c: [u8; 320]) -> Kept {
+fn begin(c: [u8; 320]) -> Context {
+    let message = image::word(c, 4);
     let n = c[1] as usize;
     let size = c[2] as usize;
+    let set = c[3] != 0;
     let next = blake2s::begin(image::first(&c[8..], n), size);
     let answer = next.answer;
-    write_answer(answer);
-    let mut context = next.context;
-    if c[3] != 0 {
-        context.message = image::word(c, 4);
+    let mut x = next.context;
+    if set {
+        x.message = message;
     }
-    with(k, context)
+    write_next(answer, x);
+    x
 }
 
 // Byte 1 says how many bytes the part has, which stands from byte 8 on.
-pub fn update(k: Kept, c: [u8; 320]) -> Kept {
+fn update(x: Context, c: [u8; 320]) -> Context {
     let n = c[1] as usize;
-    let next = blake2s::update(k.context, image::first(&c[8..], n));
+    let next = blake2s::update(x, image::first(&c[8..], n));
     let answer = next.answer;
-    write_answer(answer);
-    with(k, next.context)
+    let context = next.context;
+    write_next(answer, context);
+    context
 }
 
-// Byte 1 says how many bytes are lent for the hash.
-pub fn finish(k: Kept, c: [u8; 320]) -> Kept {
-    finish_into(k.context, head::length(c[1], 0, 255));
-    k
-}
-
-fn finish_into(c: Context, n: usize)
+// So many bytes are lent for the hash.
+fn finish(x: Context, n: usize) -> Context
     requires { ⌜ n ≤ 255 ⌝ }
 {
     let mut out = [0xaau8; 255];
-    let answer = blake2s::finish(c, &mut out[..n]);
+    let answer = blake2s::finish(x, &mut out[..n]);
     write_answer(answer);
     write_output(out);
+    x
 }
 
-// The context that is kept is written too, but for what only the hash shows.
-fn with(k: Kept, context: Context) -> Kept {
-    let state = k.state;
-    let ram = k.ram;
-    let words = k.words;
-    write_context(context);
-    Kept {
-        state,
-        ram,
-        words,
-        context,
-    }
+// ---- what is written
+
+fn write_next(a: Answer, c: Context) {
+    write_answer(a);
+    write_context(c);
 }
 
+// Of a context what is not only seen in the hash.
 fn write_context(c: Context) {
     image::write_word(c.message);
     image::write_bool(c.keyed);

@@ -1,10 +1,34 @@
 // Begin and receive.
-use super::Kept;
 use super::image;
 use loader::Answer;
 use loader::Received;
 use loader::State;
+
 ghost use Prim.Native.Nat.{_≤_};
+
+// What one call leaves for the next.
+pub struct Kept {
+    pub state: State,
+    pub ram: [u8; 301],
+    pub words: [u32; 9],
+}
+
+// Before the first call.
+pub fn none() -> Kept {
+    Kept {
+        state: image::state([0; 320]),
+        ram: [0; 301],
+        words: [0; 9],
+    }
+}
+
+pub fn call(k: Kept, c: [u8; 320]) -> Kept {
+    match c[0] {
+        0 => begin(k, c),
+        1 => receive(set(k, c), c),
+        _ => k,
+    }
+}
 
 // A length of two bytes, or the most if that is less.
 pub fn length(low: u8, high: u8, most: usize) -> usize
@@ -16,7 +40,7 @@ pub fn length(low: u8, high: u8, most: usize) -> usize
 
 // Bytes 4 and 5 say how many bytes of the record are lent, which stands from byte 8 on; 268 to 271 are the RAM's length, 272 to 279 the
 // UDI.
-pub fn begin(k: Kept, c: [u8; 320]) -> Kept {
+fn begin(k: Kept, c: [u8; 320]) -> Kept {
     let n = length(c[4], c[5], 257);
     let udi = image::udi(c, 272);
     let ram_len = image::word(c, 268) as usize;
@@ -25,20 +49,13 @@ pub fn begin(k: Kept, c: [u8; 320]) -> Kept {
     let state = b.state;
     let ram = k.ram;
     let words = k.words;
-    let context = k.context;
     write_answer(answer);
     image::write_state(state);
-    Kept {
-        state,
-        ram,
-        words,
-        context,
-    }
+    Kept { state, ram, words }
 }
 
 // What is kept, with the state of this call where byte 6 is not 0, and where byte 7 is not 0 with 0xaa in RAM and the words of this call.
-pub fn set(k: Kept, c: [u8; 320]) -> Kept {
-    let context = k.context;
+fn set(k: Kept, c: [u8; 320]) -> Kept {
     let mut state = k.state;
     let mut ram = k.ram;
     let mut words = k.words;
@@ -49,12 +66,7 @@ pub fn set(k: Kept, c: [u8; 320]) -> Kept {
         ram = [0xaa; 301];
         words = words_in(c);
     }
-    Kept {
-        state,
-        ram,
-        words,
-        context,
-    }
+    Kept { state, ram, words }
 }
 
 // Bytes 8 to 43.
@@ -73,34 +85,17 @@ fn words_in(c: [u8; 320]) -> [u32; 9] {
 }
 
 // Byte 1 is received, with so many bytes of room (byte 2), words (byte 3) and bytes of RAM (bytes 4 and 5) lent.
-pub fn receive(k: Kept, c: [u8; 320]) -> Kept {
-    let context = k.context;
-    let before = k.ram;
-    let secret = k.words;
+fn receive(k: Kept, c: [u8; 320]) -> Kept {
     let room_len = length(c[2], 0, 160);
     let words_len = length(c[3], 0, 9);
     let ram_len = length(c[4], c[5], 301);
-    let left = call(k.state, before, secret, c[1], room_len, ram_len, words_len);
-    let state = left.state;
-    let ram = left.ram;
-    let words = left.words;
-    Kept {
-        state,
-        ram,
-        words,
-        context,
-    }
-}
-
-// What a call leaves.
-struct Left {
-    state: State,
-    ram: [u8; 301],
-    words: [u32; 9],
+    let ram = k.ram;
+    let words = k.words;
+    lend(k.state, ram, words, c[1], room_len, ram_len, words_len)
 }
 
 // The fronts of a room, of RAM and of the words are lent.
-fn call(s: State, r: [u8; 301], w: [u32; 9], byte: u8, a: usize, b: usize, n: usize) -> Left
+fn lend(s: State, r: [u8; 301], w: [u32; 9], byte: u8, a: usize, b: usize, n: usize) -> Kept
     requires { ⌜ (a ≤ 160) × (b ≤ 301) × (n ≤ 9) ⌝ }
 {
     let mut room = [0xeeu8; 160];
@@ -110,7 +105,7 @@ fn call(s: State, r: [u8; 301], w: [u32; 9], byte: u8, a: usize, b: usize, n: us
     let state = x.state;
     write_received(x);
     write_lent(room, ram, words);
-    Left { state, ram, words }
+    Kept { state, ram, words }
 }
 
 // ---- what is written

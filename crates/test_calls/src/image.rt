@@ -7,11 +7,6 @@ use loader::Progress;
 use loader::State;
 ghost use Prim.Native.Nat.{_+_, _≤_};
 
-// The state before the first call, which every call refuses.
-pub fn none() -> State {
-    state([0; 320])
-}
-
 // The word at a place.
 pub fn word(c: [u8; 320], at: usize) -> u32
     requires { ⌜ at + 4 ≤ 320 ⌝ }

@@ -6,29 +6,19 @@ mod head;
 mod image;
 mod small;
 
-use blake2s::Context;
 use libc::STDIN_FILENO;
-use loader::State;
-
-// What one call leaves for the next.
-pub struct Kept {
-    pub state: State,
-    pub ram: [u8; 301],
-    pub words: [u32; 9],
-    pub context: Context,
-}
 
 fn main() {
     let mut left = read_count();
-    let mut kept = Kept {
-        state: image::none(),
-        ram: [0; 301],
-        words: [0; 9],
-        context: hash::none(),
-    };
+    let mut kept = head::none();
+    let mut context = hash::none();
     while 0 < left {
-        let next = call(kept, read_call());
+        let c = read_call();
+        let next = head::call(kept, c);
         kept = next;
+        let more = hash::call(context, c);
+        context = more;
+        small::call(c);
         left = left - 1;
     }
 }
@@ -43,17 +33,4 @@ fn read_call() -> [u8; 320] {
     let mut c = [0u8; 320];
     io::read_full(STDIN_FILENO, &mut c);
     c
-}
-
-fn call(k: Kept, c: [u8; 320]) -> Kept {
-    match c[0] {
-        0 => head::begin(k, c),
-        1 => head::receive(head::set(k, c), c),
-        2 => hash::begin(k, c),
-        3 => hash::update(k, c),
-        4 => hash::finish(k, c),
-        5 => small::read_header(k, c[1]),
-        6 => small::write_header(k, c),
-        _ => small::derive(k, c),
-    }
 }

@@ -1,15 +1,14 @@
 -- How many calls are left is the measure.
 use native.Mathlib.Omega.{arith}
-use mathlib.Core.Path.{refl}
 use borrow.Author.Needs.{needs}
 use Rattle.test_calls.proofs.main.Statement.{statement}
 use Rattle.test_calls.proofs.main.Tie as tie
 
 abbrev Inv-loop : tie.InvT-loop
-Inv-loop left₀ kept₀ left kept = Unit {0}
+Inv-loop left₀ kept₀ context₀ left kept context = Unit {0}
 
 abbrev μ-loop : tie.MeasureT-loop
-μ-loop left₀ kept₀ left kept = left
+μ-loop left₀ kept₀ context₀ left kept context = left
 
 pub main-spec : {M : Type 1} → statement M
 main-spec =
@@ -23,7 +22,9 @@ main-spec =
     (λ c. tt)
     (λ c κs. search needs)
     (λ c κs. search needs)
+    (λ c κs. search needs)
+    (λ c κs. search needs)
     (λ c. search needs)
-    (λ c. omega (arith, c .before .before .loop-test .taken))
+    (λ c. omega (arith, c .before .before .before .before .loop-test .taken))
     (λ c. tt)
     (λ c. search needs))

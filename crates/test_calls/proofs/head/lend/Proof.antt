@@ -2,11 +2,11 @@
 use mathlib.Core.Path.{sym}
 use lib.Seq.{length-take-le}
 use borrow.Author.Needs.{needs}
-use Rattle.test_calls.proofs.head.call.Statement.{statement}
-use Rattle.test_calls.proofs.head.call.Tie as tie
+use Rattle.test_calls.proofs.head.lend.Statement.{statement}
+use Rattle.test_calls.proofs.head.lend.Tie as tie
 
-pub call-spec : {M : Type 1} → statement M
-call-spec =
+pub lend-spec : {M : Type 1} → statement M
+lend-spec =
     tie.close
     (tie.spec
     (λ c. search needs)

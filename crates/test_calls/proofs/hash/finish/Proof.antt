@@ -2,11 +2,11 @@
 use mathlib.Core.Path.{sym}
 use lib.Seq.{length-take-le}
 use borrow.Author.Needs.{needs}
-use Rattle.test_calls.proofs.hash.finish_into.Statement.{statement}
-use Rattle.test_calls.proofs.hash.finish_into.Tie as tie
+use Rattle.test_calls.proofs.hash.finish.Statement.{statement}
+use Rattle.test_calls.proofs.hash.finish.Tie as tie
 
-pub finish-into-spec : {M : Type 1} → statement M
-finish-into-spec =
+pub finish-spec : {M : Type 1} → statement M
+finish-spec =
     tie.close
     (tie.spec
     (λ c. search needs)
