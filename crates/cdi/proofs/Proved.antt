@@ -75,8 +75,6 @@ literal = record { direct = refl; direct-used = refl; chained = refl; chained-us
 pub cdi : Cdi
 unfolding cdiString
 cdi = record {
-  p11 = λ x s u. (domain-at x ∙ rw (s, u), string-length x ∙ rw u);
-  p12 = λ x s u. (domain-at x ∙ rw (s, u), string-length x ∙ rw u);
   domain = domain-at;
   size = string-length;
   injective = λ x y e.

@@ -84,11 +84,7 @@ pub record Strings : Type 0 where
       0x70 ∷ 0x71 ∷ 0x72 ∷ 0x73 ∷ 0x74 ∷ 0x75 ∷ 0x76 ∷ 0x77 ∷ 0x78 ∷ 0x79 ∷ 0x7a ∷ 0x7b ∷ 0x7c ∷ 0x7d ∷ 0x7e ∷ 0x7f ∷ []
 
 pub record Cdi : Type 0 where
-  -- P11, direct without a user secret: domain 0 and 65 bytes
-  pub p11 : (x : Inputs) → x .chained ≡ false → x .used ≡ false → (getD (stringOf x) 32 0 ≡ 0) × (length (stringOf x) ≡ 65)
-  -- P12, chained with a user secret: domain 3 and 97 bytes
-  pub p12 : (x : Inputs) → x .chained ≡ true → x .used ≡ true → (getD (stringOf x) 32 0 ≡ 3) × (length (stringOf x) ≡ 97)
-  -- in general
+  -- the domain is byte 32, and a user secret that is used makes the string longer
   pub domain : (x : Inputs) → getD (stringOf x) 32 0 ≡ domainOf (x .used) (x .chained)
   pub size : (x : Inputs) → length (stringOf x) ≡ cond (x .used) 97 65
   -- no two inputs give the same string, but for what is not used of them

@@ -1,13 +1,13 @@
 -- The command frames of a program: change request 1, "The server's half". A frame is the list of its bytes, header first, as in `protocol`; that
 -- these are what document 01 reads as a load and its blocks is a theorem of `session`.
 use Prim.Native.Nat.{ℕ, _-_}
-use mathlib.Core.Bool.{Bool, not, cond, _&&_}
+use mathlib.Core.Bool.{Bool, not, cond}
 use mathlib.Core.List.{List, [], _∷_, _++_}
-use lib.Dec.{eqb, leb, ltb}
+use lib.Dec.{eqb, ltb}
 use lib.ListN.{length, take, drop}
 use Rattle.framing.specs.Header.{headerByte}
 use Rattle.endian.specs.Endian.{byteOf}
-use Rattle.protocol.specs.Commands.{firmware, blocksFor, placeOf}
+use Rattle.protocol.specs.Commands.{lengthOk, firmware, blocksFor, placeOf}
 use Rattle.protocol.specs.Replies.{written, putIn}
 use Rattle.endian.specs.Lists.{padded}
 use Rattle.client.specs.Answers.{numberOf}
@@ -15,10 +15,6 @@ use Rattle.client.specs.declared.Answer.{Answer}
 use Rattle.client.specs.declared.Secret.{Secret}
 
 -- ---- which frames there are
-
--- a program has 1 to 131,072 bytes
-abbrev pub lengthOk : ℕ → Bool
-lengthOk n = leb 1 n && leb n 131072
 
 -- frame 0 is the load, and the last one is the last block: the lowest refusal for the program's length, a frame ID and a frame number, 0 for none
 unfoldable pub refusal : ℕ → ℕ → ℕ → ℕ

@@ -42,7 +42,7 @@ pub struct Taken {
 }
 
 // The number that the papers give an answer; 0 where the call is accepted.
-pub fn number(a: Answer) -> u32
+pub fn answer_number(a: Answer) -> u32
     ensures { λ r. ⌜ r ≡ numberOf a ⌝ }
 {
     match a {
@@ -59,10 +59,7 @@ pub fn number(a: Answer) -> u32
 fn check(len: usize, id: u8, k: u32) -> Answer
     ensures { λ r. ⌜ numberOf r ≡ refusal len id k ⌝ }
 {
-    if len == 0 {
-        return Answer::ProgramLength;
-    }
-    if 131072 < len {
+    if !protocol::length_ok(len) {
         return Answer::ProgramLength;
     }
     if 3 < id {
@@ -124,7 +121,7 @@ pub extern "C" fn mastfrap_make_frame(
     let used = used != 0;
     let secret = Secret { used, uss };
     let a = make_frame(program, id, secret, k, room);
-    number(a)
+    answer_number(a)
 }
 
 // read_reply, for C. Status and digest are written where the reply is taken; the digest is zeros but for the last reply.
@@ -141,7 +138,7 @@ pub extern "C" fn mastfrap_read_reply(
 {
     let t = read_reply(len, id, k, reply);
     let answer = t.answer;
-    let n = number(answer);
+    let n = answer_number(answer);
     if n == 0 {
         *status = t.status;
         let d = t.digest;

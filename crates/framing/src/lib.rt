@@ -2,7 +2,7 @@
 // Document 01, "Header byte", in the terms of specs/Header.antt.
 ghost use mathlib.Core.Path.{_≡_};
 ghost use Prim.Native.Nat.{_<_};
-ghost use Rattle.framing.specs.Header.{headerAt, headerByte, lengthOf, codeOf};
+ghost use Rattle.framing.specs.Header.{frameId, inField, headerAt, headerByte, lengthOf, codeOf};
 ghost use Rattle.framing.specs.Answers.{readingOf, writingOf};
 
 // What a header byte says.
@@ -46,6 +46,13 @@ fn length_code(len: usize) -> u8
     }
 }
 
+// The ID of the frame with this header.
+pub fn frame_id(b: u8) -> u8
+    ensures { λ r. ⌜ r ≡ inField frameId b ⌝ }
+{
+    b / 32 % 4
+}
+
 // Reads a header byte.
 pub fn read_header(b: u8) -> Header
     ensures { λ r. ⌜ readingOf r ≡ headerAt b ⌝ }
@@ -57,7 +64,7 @@ pub fn read_header(b: u8) -> Header
         return Header::Bad;
     }
     Header::Good {
-        id: b / 32 % 4,
+        id: frame_id(b),
         endpoint: b / 8 % 4,
         len: body_length(b % 4),
     }

@@ -94,7 +94,6 @@ protocol = record {
   load = fields;
   used = λ l. (eqb-true (l .flag) 1, eq-eqb (l .flag) 1);
   good-load = λ m l. (is-good m l, good-is m l);
-  blocks = (refl, refl, refl, refl, refl, refl);
   full = full-block;
   last = last-block;
   header = of-length;

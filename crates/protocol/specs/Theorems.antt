@@ -35,9 +35,6 @@ pub record Protocol : Type 0 where
   pub used : (l : Load) → (usesUss l ≡ true) ↔ (l .flag ≡ 1)
   -- which loads are good
   pub good-load : (m : ℕ) (l : Load) → (goodLoad m l ≡ true) ↔ IsGood m l
-  -- P6 to P10
-  pub blocks : (blocksFor 127 ≡ 1) × (blocksFor 128 ≡ 2) × (blocksFor 254 ≡ 2) × (blocksFor 255 ≡ 3)
-      × (blocksFor 131072 ≡ 1033) × (countIn 131072 1032 ≡ 8)
   -- the blocks of a program are full but for the last, and with the last it is whole
   pub full : (n k : ℕ) → k < blocksFor n → isLast n k ≡ false → countIn n k ≡ 127
   pub last : (n k : ℕ) → 1 ≤ n → isLast n k ≡ true → placeOf k + countIn n k ≡ n

@@ -2,7 +2,7 @@
 // Document 01, "Commands and replies", in the terms of specs/Commands.antt and specs/Replies.antt.
 ghost use mathlib.Core.Path.{_≡_};
 ghost use lib.ListN.{take, drop};
-ghost use Rattle.protocol.specs.Commands.{bytesOf, loadIn, goodLoad, usesUss, blocksFor, placeOf, countIn, isLast};
+ghost use Rattle.protocol.specs.Commands.{lengthOk, bytesOf, loadIn, goodLoad, usesUss, blocksFor, placeOf, countIn, isLast};
 ghost use Rattle.protocol.specs.Replies.{replyHeader, replyWith, nameReply, udiReply, loadReply, blockReply, digestReply};
 
 // A frame: its header, and its body at the front of 128 bytes.
@@ -44,6 +44,16 @@ pub fn read_load(f: Frame) -> Load
         flag: body[5],
         uss: uss_in(body),
     }
+}
+
+// Whether a program, or RAM, can have so many bytes.
+pub fn length_ok(n: usize) -> bool
+    ensures { λ r. ⌜ r ≡ lengthOk n ⌝ }
+{
+    if n == 0 {
+        return false;
+    }
+    n <= 131072
 }
 
 // Whether a load is taken by a head with this much RAM.
@@ -108,7 +118,7 @@ pub fn is_last(size: u32, block: u32) -> bool
 fn reply_header(header: u8, len: usize) -> u8
     ensures { λ r. ⌜ r ≡ replyHeader header len ⌝ }
 {
-    match framing::write_header(header / 32 % 4, 2, len) {
+    match framing::write_header(framing::frame_id(header), 2, len) {
         framing::Written::Byte(b) => b,
         framing::Written::Refused => 0,
     }

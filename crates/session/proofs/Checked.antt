@@ -8,7 +8,6 @@ use lib.ListN.{length}
 use borrow.Author.Tests.{eq-eqb, le-ltb}
 use Rattle.framing.specs.Header.{good, stop, headerAt}
 use Rattle.blake2s.proofs.Proved.{hashing}
-use Rattle.protocol.proofs.Proved.{protocol}
 use Rattle.cdi.proofs.Proved.{cdi}
 use Rattle.loader.specs.State.{inRange, live, idle}
 use Rattle.loader.specs.Answers.{continues, stopped, Outcome}
@@ -117,20 +116,19 @@ module _ (h : Head) (b : Begun h) where
 pub checklist : Checklist
 unfolding headerAt
 checklist =
-    let c = protocol .blocks in
     record {
       p1 = refl;
       p2 = refl;
       p3 = (header-1b, passed-over);
       p4 = λ h b. bad-header h b 0x90 22 refl;
       p5 = λ h b. bad-header h b 0x14 22 refl;
-      p6 = c .0;
-      p7 = c .1;
-      p8 = c .2;
-      p9 = c .3;
-      p10 = (c .4, c .5);
-      p11 = cdi .p11;
-      p12 = cdi .p12;
+      p6 = refl;
+      p7 = refl;
+      p8 = refl;
+      p9 = refl;
+      p10 = (refl, refl);
+      p11 = λ x d u. (cdi .domain x ∙ rw (d, u), cdi .size x ∙ rw u);
+      p12 = λ x d u. (cdi .domain x ∙ rw (d, u), cdi .size x ∙ rw u);
       p13 = (
         λ msg l. hashing .unkeyed msg (omega arith) ∙ rw l refl,
         λ msg l. hashing .unkeyed msg (omega arith) ∙ rw l refl,

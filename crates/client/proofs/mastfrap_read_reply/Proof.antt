@@ -22,13 +22,13 @@ returns c =
     let i = c .before in
     let p = i .before .before .read-reply in
     let a = i .before .before .before .before .args in
-    taken (a .len) (a .id) (a .k) (a .reply .now) (a .status .now) (a .digest .now) _ (p .ensures) (i .before .number .result) (i .before .number .ensures) (i .if1 .taken)
+    taken (a .len) (a .id) (a .k) (a .reply .now) (a .status .now) (a .digest .now) _ (p .ensures) (i .before .answer-number .result) (i .before .answer-number .ensures) (i .if1 .taken)
 
 returns-2 : tie.Need-returns-2
 returns-2 c =
     let p = c .before .before .read-reply in
     let a = c .before .before .before .before .args in
-    refused (a .len) (a .id) (a .k) (a .reply .now) (a .status .now) (a .digest .now) _ (p .ensures) (c .before .number .result) (c .before .number .ensures) (c .if1 .left)
+    refused (a .len) (a .id) (a .k) (a .reply .now) (a .status .now) (a .digest .now) _ (p .ensures) (c .before .answer-number .result) (c .before .answer-number .ensures) (c .if1 .left)
 
 pub mastfrap-read-reply-spec : {M : Type 1} → statement M
 mastfrap-read-reply-spec = tie.close (tie.spec (λ c κs. search needs) (λ c κs. search needs) returns returns-2)

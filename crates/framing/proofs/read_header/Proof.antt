@@ -19,11 +19,13 @@ returns-2 c = simp (eq-eqb _ _ (c .before .if1 .left), ne-eqb _ _ (c .if2 .taken
 returns-3 : tie.Need-returns-3
 unfolding headerAt
 returns-3 c =
-    let b = c .before .before .before .args .b in
+    let clean = c .before .before in
+    let b = clean .before .before .args .b in
     let low : b / 1 ≡ b = omega arith in
     simp (
-      eq-eqb _ _ (c .before .before .if1 .left),
-      eq-eqb _ _ (c .before .if2 .left),
+      eq-eqb _ _ (clean .before .if1 .left),
+      eq-eqb _ _ (clean .if2 .left),
+      c .before .frame-id .ensures,
       c .body-length .ensures,
       low,
     )
@@ -33,5 +35,6 @@ read-header-spec = tie.close
     (tie.spec
     returns
     returns-2
+    (λ c κs. search needs)
     (λ c κs. search needs)
     returns-3)

@@ -6,16 +6,21 @@ use Rattle.protocol.proofs.reply_header.Tie as tie
 
 returns : tie.Need-returns
 unfolding replyHeader
-returns c = rw (← (c .before .before .before .write-header .ensures), c .before .b .given .1)
+returns c =
+    let w = c .before .before .before in
+    rw (← w .before .frame-id .ensures, ← w .write-header .ensures, c .before .b .given .1)
 
 returns-2 : tie.Need-returns-2
 unfolding replyHeader
-returns-2 c = rw (← (c .before .before .write-header .ensures), c .enum-told .given .1)
+returns-2 c =
+    let w = c .before .before in
+    rw (← w .before .frame-id .ensures, ← w .write-header .ensures, c .enum-told .given .1)
 
 pub reply-header-spec : {M : Type 1} → statement M
 reply-header-spec =
     tie.close
     (tie.spec
+    (λ c κs. search needs)
     (λ c κs. search needs)
     (λ c. search needs)
     (λ c. search needs)
