@@ -6,12 +6,13 @@ use Prim.Native.Nat.{ℕ, suc, _+_, _-_, _*_, _<_, _≤_}
 use native.Mathlib.Omega.{arith}
 use lib.ListN.{length, take, drop, replicate, length-append, length-drop}
 use lib.Seq.{take-at, paste, drop-append-add, take-append-add, length-take-le, take-length}
-use Rattle.blake2s.specs.Rfc7693.{F, words, blockAt}
+use Rattle.rfc7693.specs.Rfc7693.{F, words, blockAt}
 use Rattle.endian.specs.Lists.{padded}
 use Rattle.blake2s.specs.Stream.{earlier, total, done, waiting, extended}
 use Rattle.blake2s.specs.declared.Context.{Context}
 use Rattle.endian.proofs.Lists.{drop-replicate}
-use Rattle.blake2s.proofs.Blocks.{padded-full, block-full, block-last, block-behind, after, after-zero, after-suc}
+use Rattle.rfc7693.proofs.Blocks.{padded-full, block-full, block-last, block-behind}
+use Rattle.blake2s.proofs.Blocks.{after, after-zero, after-suc}
 
 -- s put behind x in its block
 pub paste-padded : (x s : List ℕ) (n : ℕ) → length x ≡ n → n + length s ≤ 64 → paste (padded 64 x) n s (length s) ≡ padded 64 (x ++ s)

@@ -1,0 +1,28 @@
+-- The rows of the code's tables hold places, and the two steps over the table of positions make the RFC's round.
+use mathlib.Core.Path.{_≡_}
+use mathlib.Core.List.{List, []}
+use Prim.Native.Nat.{ℕ, _+_}
+use lib.Dec.{T, ltb, ltb→lt}
+use lib.ListN.{length, getD, drop}
+use lib.Seq.{drop-cons}
+use native.Mathlib.Numerals.{add-one}
+use Rattle.rfc7693.specs.Rfc7693.{sigma, round, positions, rounds}
+use Rattle.compression.specs.Steps.{Places, fourMixings}
+use Rattle.rfc7693.proofs.Orders.{over-table}
+use Rattle.rfc7693.proofs.Table.{all, all-at}
+
+-- a list of numbers below sixteen, by one computed test
+pub places : (n : ℕ) (s : List ℕ) → length s ≡ n → T (all (λ x. ltb x 16) s) → Places n s
+places n s l t = record { below = λ i h. ltb→lt (getD s i 0) 16 (all-at (λ x. ltb x 16) s 0 t i (rw l h)) }
+
+-- the two steps of a round, one after the other
+pub both-steps : (m s v : List ℕ) → fourMixings m s 4 (fourMixings m s 0 v) ≡ round m s v
+unfolding fourMixings positions
+both-steps = over-table
+
+-- the rounds that are left, once both steps of round i are done
+pub rounds-more : (m u : List ℕ) {v w : List ℕ} (i : ℕ) → T (ltb i 10)
+    → v ≡ fourMixings m (getD sigma i []) 0 u → w ≡ fourMixings m (getD sigma i []) 4 v
+    → rounds m (drop (i + 1) sigma) w ≡ rounds m (drop i sigma) u
+unfolding rounds sigma
+rounds-more m u i h e f = rw (f, e, both-steps, add-one, drop-cons sigma i [] (ltb→lt i 10 h))
