@@ -29,16 +29,17 @@ fn first_state(kk: usize, nn: usize) -> [u32; 8]
     requires { ⌜ (kk ≤ 32) × (nn ≤ 32) ⌝ }
     ensures { λ r. ⌜ r ≡ initial kk nn ⌝ }
 {
+    let iv = IV;
     let k = kk as u32;
     [
-        IV[0] ^ 0x01010000 ^ (k << 8) ^ (nn as u32),
-        IV[1],
-        IV[2],
-        IV[3],
-        IV[4],
-        IV[5],
-        IV[6],
-        IV[7],
+        iv[0] ^ 0x01010000 ^ (k << 8) ^ (nn as u32),
+        iv[1],
+        iv[2],
+        iv[3],
+        iv[4],
+        iv[5],
+        iv[6],
+        iv[7],
     ]
 }
 

@@ -200,6 +200,7 @@ fn inverted_if(last: bool, x: u32) -> u32
 fn work_vector(h: [u32; 8], t: u64, last: bool) -> [u32; 16]
     ensures { λ r. ⌜ r ≡ workVector h t last ⌝ }
 {
+    let iv = IV;
     let lo = (t % 4294967296) as u32;
     let hi = (t / 4294967296) as u32;
     [
@@ -211,14 +212,14 @@ fn work_vector(h: [u32; 8], t: u64, last: bool) -> [u32; 16]
         h[5],
         h[6],
         h[7],
-        IV[0],
-        IV[1],
-        IV[2],
-        IV[3],
-        IV[4] ^ lo,
-        IV[5] ^ hi,
-        inverted_if(last, IV[6]),
-        IV[7],
+        iv[0],
+        iv[1],
+        iv[2],
+        iv[3],
+        iv[4] ^ lo,
+        iv[5] ^ hi,
+        inverted_if(last, iv[6]),
+        iv[7],
     ]
 }
 

@@ -22,12 +22,12 @@ column-step-spec =
     tie.close
     (tie.spec
     (λ c. search needs)
-    (λ c κs. (c .before .pre, ltb→lt _ 8 tt, places 4 _ refl tt))
+    (λ c κs. (c .before .pre, ltb→lt 0 8 tt, places 4 _ refl tt))
     (λ c. search needs)
-    (λ c κs. (c .before .before .before .pre, ltb→lt _ 8 tt, places 4 _ refl tt))
+    (λ c κs. (c .before .before .before .pre, ltb→lt 1 8 tt, places 4 _ refl tt))
     (λ c. search needs)
-    (λ c κs. (c .before .before .before .before .before .pre, ltb→lt _ 8 tt, places 4 _ refl tt))
+    (λ c κs. (c .before .before .before .before .before .pre, ltb→lt 2 8 tt, places 4 _ refl tt))
     (λ c. search needs)
-    (λ c κs. (c .before .before .before .before .before .before .before .pre, ltb→lt _ 8 tt, places 4 _ refl tt))
+    (λ c κs. (c .before .before .before .before .before .before .before .pre, ltb→lt 3 8 tt, places 4 _ refl tt))
     (λ c κs. search needs)
     returns)

@@ -22,12 +22,12 @@ diagonal-step-spec =
     tie.close
     (tie.spec
     (λ c. search needs)
-    (λ c κs. (c .before .pre, ltb→lt _ 8 tt, places 4 _ refl tt))
+    (λ c κs. (c .before .pre, ltb→lt 4 8 tt, places 4 _ refl tt))
     (λ c. search needs)
-    (λ c κs. (c .before .before .before .pre, ltb→lt _ 8 tt, places 4 _ refl tt))
+    (λ c κs. (c .before .before .before .pre, ltb→lt 5 8 tt, places 4 _ refl tt))
     (λ c. search needs)
-    (λ c κs. (c .before .before .before .before .before .pre, ltb→lt _ 8 tt, places 4 _ refl tt))
+    (λ c κs. (c .before .before .before .before .before .pre, ltb→lt 6 8 tt, places 4 _ refl tt))
     (λ c. search needs)
-    (λ c κs. (c .before .before .before .before .before .before .before .pre, ltb→lt _ 8 tt, places 4 _ refl tt))
+    (λ c κs. (c .before .before .before .before .before .before .before .pre, ltb→lt 7 8 tt, places 4 _ refl tt))
     (λ c κs. search needs)
     returns)
