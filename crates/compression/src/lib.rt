@@ -177,16 +177,26 @@ fn rounds(v: [u32; 16], m: &[u32; 16]) -> [u32; 16]
     ensures { λ r. ⌜ r ≡ rounds (now (m .entry)) sigma v ⌝ }
 {
     let s = SIGMA;
-    let v1 = diagonal_step(m, s[0], column_step(m, s[0], v));
-    let v2 = diagonal_step(m, s[1], column_step(m, s[1], v1));
-    let v3 = diagonal_step(m, s[2], column_step(m, s[2], v2));
-    let v4 = diagonal_step(m, s[3], column_step(m, s[3], v3));
-    let v5 = diagonal_step(m, s[4], column_step(m, s[4], v4));
-    let v6 = diagonal_step(m, s[5], column_step(m, s[5], v5));
-    let v7 = diagonal_step(m, s[6], column_step(m, s[6], v6));
-    let v8 = diagonal_step(m, s[7], column_step(m, s[7], v7));
-    let v9 = diagonal_step(m, s[8], column_step(m, s[8], v8));
-    diagonal_step(m, s[9], column_step(m, s[9], v9))
+    let s0 = s[0];
+    let v1 = diagonal_step(m, s0, column_step(m, s0, v));
+    let s1 = s[1];
+    let v2 = diagonal_step(m, s1, column_step(m, s1, v1));
+    let s2 = s[2];
+    let v3 = diagonal_step(m, s2, column_step(m, s2, v2));
+    let s3 = s[3];
+    let v4 = diagonal_step(m, s3, column_step(m, s3, v3));
+    let s4 = s[4];
+    let v5 = diagonal_step(m, s4, column_step(m, s4, v4));
+    let s5 = s[5];
+    let v6 = diagonal_step(m, s5, column_step(m, s5, v5));
+    let s6 = s[6];
+    let v7 = diagonal_step(m, s6, column_step(m, s6, v6));
+    let s7 = s[7];
+    let v8 = diagonal_step(m, s7, column_step(m, s7, v7));
+    let s8 = s[8];
+    let v9 = diagonal_step(m, s8, column_step(m, s8, v8));
+    let s9 = s[9];
+    diagonal_step(m, s9, column_step(m, s9, v9))
 }
 
 // x, with all bits inverted for the last block.

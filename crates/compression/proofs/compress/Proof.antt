@@ -1,11 +1,10 @@
 -- The two halves of the vector after the rounds go into the state, as F says.
-use Rattle.rfc7693.specs.Rfc7693.{F}
+use Rattle.compression.proofs.Steps.{next-state}
 use borrow.Author.Needs.{needs}
 use Rattle.compression.proofs.compress.Statement.{statement}
 use Rattle.compression.proofs.compress.Tie as tie
 
 returns : tie.Need-returns
-unfolding F
 returns c =
     let c7 = c .before in
     let c6 = c7 .before in
@@ -15,6 +14,8 @@ returns c =
     let c2 = c3 .before in
     let c1 = c2 .before in
     let v = c1 .before in
+    let w = v .before in
+    let a = w .before .args in
     rw (
       c .next-word8 .ensures,
       c7 .next-word7 .ensures,
@@ -24,9 +25,8 @@ returns c =
       c3 .next-word3 .ensures,
       c2 .next-word2 .ensures,
       c1 .next-word .ensures,
-      v .rounds .ensures,
-      v .before .work-vector .ensures,
     )
+    (next-state (a .h) (a .m .now) (a .t) (a .last) (w .work-vector .ensures) (v .rounds .ensures))
 
 pub compress-spec : {M : Type 1} → statement M
 compress-spec =

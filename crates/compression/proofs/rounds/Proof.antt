@@ -9,16 +9,16 @@ use Rattle.compression.proofs.rounds.Tie as tie
 returns : tie.Need-returns
 unfolding rounds sigma
 returns c =
-    let c9 = c .before .before .before .before in
-    let c8 = c9 .before .before .before .before in
-    let c7 = c8 .before .before .before .before in
-    let c6 = c7 .before .before .before .before in
-    let c5 = c6 .before .before .before .before in
-    let c4 = c5 .before .before .before .before in
-    let c3 = c4 .before .before .before .before in
-    let c2 = c3 .before .before .before .before in
-    let c1 = c2 .before .before .before .before in
-    let a = c1 .before .before .before .before .args in
+    let c9 = c .before .before .before in
+    let c8 = c9 .before .before .before in
+    let c7 = c8 .before .before .before in
+    let c6 = c7 .before .before .before in
+    let c5 = c6 .before .before .before in
+    let c4 = c5 .before .before .before in
+    let c3 = c4 .before .before .before in
+    let c2 = c3 .before .before .before in
+    let c1 = c2 .before .before .before in
+    let a = c1 .before .before .before .args in
     let m = a .m .now in
     rounds-more m (c9 .diagonal-step9 .result) 9 tt (c .before .column-step10 .ensures) (c .diagonal-step10 .ensures)
     ∙ rounds-more m (c8 .diagonal-step8 .result) 8 tt (c9 .before .column-step9 .ensures) (c9 .diagonal-step9 .ensures)
@@ -36,42 +36,32 @@ rounds-spec =
     tie.close
     (tie.spec
     (λ c. search needs)
+    (λ c κs. places 16 _ refl tt)
+    (λ c κs. places 16 _ refl tt)
     (λ c. search needs)
     (λ c κs. places 16 _ refl tt)
     (λ c κs. places 16 _ refl tt)
     (λ c. search needs)
+    (λ c κs. places 16 _ refl tt)
+    (λ c κs. places 16 _ refl tt)
     (λ c. search needs)
     (λ c κs. places 16 _ refl tt)
     (λ c κs. places 16 _ refl tt)
     (λ c. search needs)
+    (λ c κs. places 16 _ refl tt)
+    (λ c κs. places 16 _ refl tt)
     (λ c. search needs)
     (λ c κs. places 16 _ refl tt)
     (λ c κs. places 16 _ refl tt)
     (λ c. search needs)
+    (λ c κs. places 16 _ refl tt)
+    (λ c κs. places 16 _ refl tt)
     (λ c. search needs)
     (λ c κs. places 16 _ refl tt)
     (λ c κs. places 16 _ refl tt)
     (λ c. search needs)
-    (λ c. search needs)
     (λ c κs. places 16 _ refl tt)
     (λ c κs. places 16 _ refl tt)
-    (λ c. search needs)
-    (λ c. search needs)
-    (λ c κs. places 16 _ refl tt)
-    (λ c κs. places 16 _ refl tt)
-    (λ c. search needs)
-    (λ c. search needs)
-    (λ c κs. places 16 _ refl tt)
-    (λ c κs. places 16 _ refl tt)
-    (λ c. search needs)
-    (λ c. search needs)
-    (λ c κs. places 16 _ refl tt)
-    (λ c κs. places 16 _ refl tt)
-    (λ c. search needs)
-    (λ c. search needs)
-    (λ c κs. places 16 _ refl tt)
-    (λ c κs. places 16 _ refl tt)
-    (λ c. search needs)
     (λ c. search needs)
     (λ c κs. places 16 _ refl tt)
     (λ c κs. places 16 _ refl tt)
