@@ -1,18 +1,18 @@
--- The rows of the code's tables hold places, and the two steps over the table of positions make the RFC's round.
+-- The steps of a compression: the rows of the code's tables hold places, and mixings, rounds and the next state are the RFC's.
 use mathlib.Core.Path.{_≡_}
+use mathlib.Core.Bool.{Bool}
 use mathlib.Core.List.{List, []}
 use Prim.Native.Nat.{ℕ, _+_}
-use mathlib.Core.Bool.{Bool}
+use native.Mathlib.Numerals.{add-one}
 use lib.Bits.{bitXor}
-use Rattle.endian.specs.Lists.{each}
 use lib.Dec.{T, ltb, ltb→lt}
 use lib.ListN.{length, getD, drop}
 use lib.Seq.{drop-cons}
-use native.Mathlib.Numerals.{add-one}
+use Rattle.endian.specs.Lists.{each}
 use Rattle.rfc7693.specs.Rfc7693.{sigma, workVector, round, positions, mixing, rounds, F}
 use Rattle.compression.specs.Steps.{Places, fourMixings}
-use Rattle.rfc7693.proofs.Orders.{over-table}
 use Rattle.rfc7693.proofs.Table.{all, all-at}
+use Rattle.rfc7693.proofs.Orders.{over-table}
 
 -- a list of numbers below sixteen, by one computed test
 pub places : (n : ℕ) (s : List ℕ) → length s ≡ n → T (all (λ x. ltb x 16) s) → Places n s

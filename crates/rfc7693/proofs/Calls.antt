@@ -22,12 +22,8 @@ length-input (k ∷ ks) msg h =
     let l : length (padded 64 (k ∷ ks)) ≡ 64 = length-padded (k ∷ ks) (omega arith) in
     rw (e, length-append, l) (omega arith)
 
--- how many blocks of n bytes come before the final one
-abbrev pub before : ℕ → ℕ
-before n = (n - 1) / 64
-
--- and one block more than those before the final one is the number of blocks
-pub blocks : (kk ll : ℕ) → kk ≤ 32 → blockCount kk ll ≡ suc (before (cond (eqb kk 0) ll (ll + 64)))
+-- and from it the number of blocks: those before the final one, and one more
+pub blocks : (kk ll : ℕ) → kk ≤ 32 → blockCount kk ll ≡ suc ((cond (eqb kk 0) ll (ll + 64) - 1) / 64)
 unfolding blockCount
 blocks kk ll h = go (eqb kk 0) (eqb (kk + ll) 0) refl refl
   where
@@ -40,12 +36,12 @@ blocks kk ll h = go (eqb kk 0) (eqb (kk + ll) 0) refl refl
 -- the calls of F for a key and a message, by the number of blocks before the final one
 pub calls : (key msg : List ℕ) → length key ≤ 32
     → compressions key msg
-    ≡ leading (before (length (input key msg))) 0 (input key msg) ++
-    record { block = blockAt (input key msg) (before (length (input key msg))); counter = length (input key msg); last = true } ∷ []
+    ≡ leading ((length (input key msg) - 1) / 64) 0 (input key msg) ++
+    record { block = blockAt (input key msg) ((length (input key msg) - 1) / 64); counter = length (input key msg); last = true } ∷ []
 unfolding compressions
 calls key msg h =
     let l = length-input key msg h in
-    let b : blockCount (length key) (length msg) - 1 ≡ before (length (input key msg)) = rw (blocks (length key) (length msg) h, ← l) (omega arith) in
+    let b : blockCount (length key) (length msg) - 1 ≡ (length (input key msg) - 1) / 64 = rw (blocks (length key) (length msg) h, ← l) (omega arith) in
     rw (b, ← l)
 
 module _ (key msg : List ℕ) (fits : length key ≤ 32) where
@@ -57,14 +53,14 @@ module _ (key msg : List ℕ) (fits : length key ≤ 32) where
   pub count : length (compressions key msg) ≡ blockCount (length key) (length msg)
   count =
       let l = length-input key msg fits in
-      let n = before (length (input key msg)) in
+      let n = (length (input key msg) - 1) / 64 in
       let e : length (leading n 0 (input key msg)) ≡ n = leading-count n in
       rw (calls key msg fits, length-append, e, blocks (length key) (length msg) fits, ← l) (omega arith)
 
   -- the last call's counter
   pub last-counter : (z : Compression) (i : ℕ) → suc i ≡ length (compressions key msg) → getD (compressions key msg) i z .counter ≡ length (input key msg)
   last-counter z i e =
-      let n = before (length (input key msg)) in
+      let n = (length (input key msg) - 1) / 64 in
       let k : length (leading n 0 (input key msg)) ≡ n = leading-count n in
       let c : length (compressions key msg) ≡ suc n = rw (calls key msg fits, length-append, k) (omega arith) in
       let j : length (leading n 0 (input key msg)) ≡ i = omega arith in
@@ -83,7 +79,7 @@ pub full-last : (key msg : List ℕ) (k : ℕ) → length key ≤ 32 → length 
     ≡ leading k 0 (input key msg) ++ record { block = drop (64 * k) (input key msg); counter = length (input key msg); last = true } ∷ []
 full-last key msg k h e =
     let d = input key msg in
-    let n : before (length d) ≡ k = omega arith in
+    let n : (length d - 1) / 64 ≡ k = omega arith in
     let l : length (drop (64 * k) d) ≡ length d - 64 * k = length-drop (64 * k) d in
     let b : blockAt d k ≡ drop (64 * k) d = block-full d k (omega arith) ∙ take-all 64 (drop (64 * k) d) (omega arith) in
     rw (calls key msg h, n, b)
