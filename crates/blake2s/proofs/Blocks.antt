@@ -1,43 +1,16 @@
 -- The calls of F for the blocks of some data, one after the other.
 use mathlib.Core.Path.{_≡_, refl, ap, sym, _∙_}
 use mathlib.Core.Bool.{Bool, false}
-use mathlib.Core.List.{List, _++_, append-nil}
+use mathlib.Core.List.{List, _++_}
 use Prim.Native.Nat.{ℕ, zero, suc, _+_, _-_, _*_, _<_, _≤_}
 use native.Mathlib.Nat.{add-zero, zero-add, suc-add}
 use native.Mathlib.Omega.{arith}
-use lib.ListN.{length, take, drop, length-append, length-replicate, length-drop}
-use lib.Seq.{take-append-le, drop-append-le, drop-drop, take-all, length-take-le}
-use Rattle.blake2s.specs.Rfc7693.{F, words, blockAt, Compression, leading, compressed}
-use Rattle.endian.specs.Lists.{padded}
+use lib.ListN.{length, take, drop, length-append, length-drop}
+use lib.Seq.{take-append-le, drop-append-le, drop-drop, take-all}
+use Rattle.rfc7693.specs.Rfc7693.{F, words, blockAt, Compression, leading, compressed}
 use Rattle.blake2s.specs.Steps.{compressedBlocks}
 use Rattle.endian.proofs.Lists.{each-ext}
-
-pub length-padded : (x : List ℕ) → length x ≤ 64 → length (padded 64 x) ≡ 64
-length-padded x h = simp (length-append, length-replicate) (omega arith)
-
-pub padded-full : (x : List ℕ) → length x ≡ 64 → padded 64 x ≡ x
-padded-full x e = rw e (append-nil x)
-
--- a block of which all bytes are there
-pub block-full : (d : List ℕ) (i : ℕ) → 64 * i + 64 ≤ length d → blockAt d i ≡ take 64 (drop (64 * i) d)
-unfolding blockAt
-block-full d i h =
-    let l : length (drop (64 * i) d) ≡ length d - 64 * i = length-drop (64 * i) d in
-    padded-full (take 64 (drop (64 * i) d)) (length-take-le 64 (drop (64 * i) d) (omega arith))
-
--- the final block
-pub block-last : (d : List ℕ) (i : ℕ) → length d ≤ 64 * i + 64 → blockAt d i ≡ padded 64 (drop (64 * i) d)
-unfolding blockAt
-block-last d i h =
-    let l : length (drop (64 * i) d) ≡ length d - 64 * i = length-drop (64 * i) d in
-    rw (take-all 64 (drop (64 * i) d) (omega arith))
-
--- the blocks behind the first n are those of what stands behind them
-pub block-behind : (d : List ℕ) (n i : ℕ) → blockAt (drop (64 * n) d) i ≡ blockAt d (n + i)
-unfolding blockAt
-block-behind d n i =
-    let e : 64 * (n + i) ≡ 64 * n + 64 * i = omega arith in
-    rw (e, ← drop-drop (64 * i) (64 * n) d)
+use Rattle.rfc7693.proofs.Blocks.{block-full, block-behind}
 
 -- blocks one after the other: none, and the first of several
 module _ (h : List ℕ) (t : ℕ) (d : List ℕ) (f : Bool) where

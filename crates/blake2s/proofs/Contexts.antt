@@ -2,16 +2,18 @@
 use mathlib.Core.Path.{_≡_, ap, sym, _∙_}
 use mathlib.Core.Bool.{Bool, true, false, cond}
 use mathlib.Core.List.{List, _++_}
-use Prim.Native.Nat.{ℕ, suc, _+_, _-_, _*_, _<_, _≤_}
+use Prim.Native.Nat.{ℕ, suc, _+_, _-_, _*_, _/_, _<_, _≤_}
 use native.Mathlib.Omega.{arith}
 use lib.ListN.{length, take, drop, replicate, length-append, length-drop}
 use lib.Seq.{take-at, paste, drop-append-add, take-append-add, length-take-le, take-length}
-use Rattle.blake2s.specs.Rfc7693.{F, words, blockAt}
+use Rattle.rfc7693.specs.Rfc7693.{F, words, blockAt}
 use Rattle.endian.specs.Lists.{padded}
+use Rattle.blake2s.specs.Steps.{compressedBlocks}
 use Rattle.blake2s.specs.Stream.{earlier, total, done, waiting, extended}
 use Rattle.blake2s.specs.declared.Context.{Context}
-use Rattle.endian.proofs.Lists.{drop-replicate}
-use Rattle.blake2s.proofs.Blocks.{padded-full, block-full, block-last, block-behind, after, after-zero, after-suc}
+use Rattle.endian.proofs.Lists.{drop-replicate, drop-whole}
+use Rattle.rfc7693.proofs.Blocks.{padded-full, block-full, block-last, block-behind}
+use Rattle.blake2s.proofs.Blocks.{blocks-one, after, after-blocks, after-zero, after-suc}
 
 -- s put behind x in its block
 pub paste-padded : (x s : List ℕ) (n : ℕ) → length x ≡ n → n + length s ≤ 64 → paste (padded 64 x) n s (length s) ≡ padded 64 (x ++ s)
@@ -133,3 +135,23 @@ module _ (c : Context) (long : length (c .block) ≡ 64) where
         ap (λ (x : List ℕ). blockAt x m) (sym v) ∙ block-behind d 1 m ∙ ap (λ (i : ℕ). blockAt d i) (sym (suc-is m)) in
         let x : padded 64 (drop (64 * m) rest) ≡ blockAt d (suc m) = sym (block-last rest m (g .1)) ∙ y in
         rw (u, t, x, z, after-suc (c .h) (done c) d m, v)
+
+    -- the same, from what the parts of the code make
+    pub made-long : (n room : ℕ) (rest : List ℕ) {t from : ℕ} {w b next end last : List ℕ} → done c + n ≡ total c → n ≤ 64 → room ≡ 64 - n
+        → room < length s → rest ≡ drop room s → t ≡ total c → w ≡ padded 64 (waiting c) → b ≡ paste w n (take room s) (length (take room s)) → length b ≡ 64
+        → next ≡ compressedBlocks (c .h) (t + room) b 1 false → from ≡ 64 * earlier (length rest)
+        → end ≡ compressedBlocks next (t + room + 64) rest (from / 64) false → last ≡ padded 64 (take (length rest - from) (drop from rest)) →
+        _≡_ {A = Context}
+        record {
+          h = end;
+          block = last;
+          message = c .message + length s;
+          keyed = c .keyed;
+          size = c .size;
+        }
+        (extended c s)
+    made-long n room rest {t = t} {from = from} {b = b} e f r l p et ew eb lb en ef ee el =
+        let m = earlier (length rest) in
+        let k : from / 64 ≡ m = omega arith in
+        rw (el, ee, k, en, blocks-one (c .h) (t + room) b false lb, after-blocks _ (t + room) rest m, eb, ew, et, ef, drop-whole (64 * m) rest)
+        (extended-long n room rest e f r l p)

@@ -1,6 +1,3 @@
-pub mod Table
-pub mod Orders
-pub mod Vectors
 pub mod Blocks
 pub mod Contexts
 pub mod Numbers

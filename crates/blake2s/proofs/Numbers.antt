@@ -9,7 +9,7 @@ use mathlib.Core.List.{List, [], _∷_}
 use denote.Enum.Declared.{tagOf}
 use types.Run.{OneOf, miss}
 use lib.ListN.{length}
-use Rattle.blake2s.specs.Rfc7693.{blake2s}
+use Rattle.rfc7693.specs.Rfc7693.{blake2s}
 use Rattle.blake2s.specs.Hash.{numberOf, hashNumber, hashOutput}
 use Rattle.blake2s.proofs.Answer.{the-type}
 use Rattle.blake2s.specs.declared.Answer.{Answer}

@@ -1,92 +1,21 @@
 -- The theorems of specs/Theorems.antt.
 use mathlib.Core.Path.{_≡_, refl, ap, sym, _∙_}
 use mathlib.Core.Bool.{true, cond}
-use mathlib.Core.List.{List, [], _∷_, _++_}
-use Prim.Native.Nat.{ℕ, suc, _+_, _-_, _*_, _/_, _^_, _<_, _≤_}
+use mathlib.Core.List.{List, [], _++_}
+use Prim.Native.Nat.{ℕ, _+_, _-_}
 use native.Mathlib.Omega.{arith}
 use lib.Dec.{eqb}
-use lib.ListN.{length, getD, take, drop, length-append, length-drop}
-use lib.Seq.{getD-at, take-all}
+use lib.ListN.{length, length-append}
 use borrow.Author.Tests.{ne-eqb}
-use Rattle.endian.specs.Lists.{each, padded}
-use Rattle.blake2s.specs.Rfc7693.{rotr, words, iv, sigma, added, xorRotated, G, workVector, round, rounds, F, input, blockAt, blockCount, Compression, leading, compressions, compressed, initial, blake2s}
-use Rattle.endian.specs.Endian.{word, firstBytes}
 use Rattle.blake2s.specs.Hash.{numberOf, hashNumber, hashOutput}
-use Rattle.blake2s.specs.Stream.{earlier, begun, extended, inRange, beginNumber, beginContext, updateNumber, updateContext, finishNumber, finishOutput, refusedContext}
-use Rattle.blake2s.specs.Theorems.{message, Examples, printed, Trace, Hashing, Streamed, Streaming, run, numbers, joined}
+use Rattle.blake2s.specs.Stream.{begun, extended, inRange, beginNumber, beginContext, updateNumber, updateContext, finishNumber, finishOutput, refusedContext}
+use Rattle.blake2s.specs.Theorems.{Answers, Streamed, Streaming, run, numbers, joined}
 use Rattle.blake2s.specs.declared.Context.{Context}
 use Rattle.blake2s.specs.declared.Answer.{Answer}
 use Rattle.blake2s.specs.declared.Answer.the-variants.{Accepted, ContextRange, OutputLength, KeyLength, MessageLength}
-use Rattle.endian.proofs.Lists.{length-each}
-use Rattle.blake2s.proofs.Orders.{order-length, order-once, over-table}
-use Rattle.blake2s.proofs.Vectors.{laid-out}
-use Rattle.blake2s.proofs.Blocks.{block-full}
 use Rattle.blake2s.proofs.Numbers.{hash-accepted, Lengths, accepted-lengths, update-zero, update-accepted, finish-accepted, finish-not-one}
-use Rattle.blake2s.proofs.Streams.{length-input, blocks, calls, in-parts, stream-size, streamed}
+use Rattle.blake2s.proofs.Streams.{in-parts, stream-size, streamed}
 use Rattle.blake2s.proofs.Sessions.{begun-nil, at-range, runs}
-
-pub examples : Examples
-unfolding rotr word words firstBytes iv sigma added xorRotated G workVector round rounds F input blockAt blockCount leading compressions compressed initial blake2s
-examples = record { abc = refl; keyed = refl }
-
--- the vectors of the rounds, each made from the one before, so that no round is computed twice
-unfoldable vectors : List ℕ → List (List ℕ) → List ℕ → List (List ℕ)
-vectors m [] v = v ∷ []
-vectors m (s ∷ ss) v = v ∷ vectors m ss (round m s v)
-
-after-rounds : (m : List ℕ) (ss : List (List ℕ)) (v : List ℕ) → each (suc (length ss)) (λ i. rounds m (take i ss) v) ≡ vectors m ss v
-unfolding rounds vectors
-after-rounds m [] v = refl
-after-rounds m (s ∷ ss) v = ap (λ (l : List (List ℕ)). v ∷ l) (after-rounds m ss (round m s v))
-
-as-printed : vectors (words (padded 64 message)) sigma (workVector (initial 0 32) 3 true) ≡ printed
-unfolding rotr word words iv sigma added xorRotated G workVector round initial vectors printed
-as-printed = refl
-
-pub trace : Trace
-unfolding rotr word words iv sigma added xorRotated G workVector round rounds F input blockAt blockCount leading compressions initial
-trace = record { call = refl; m = refl; v = after-rounds _ sigma _ ∙ as-printed; h = refl }
-
-module _ (key msg : List ℕ) (fits : length key ≤ 32) where
-  leading-count : (n : ℕ) → length (leading n 0 (input key msg)) ≡ n
-  unfolding leading
-  leading-count n = length-each n _
-
-  -- as many calls as blocks
-  count : length (compressions key msg) ≡ blockCount (length key) (length msg)
-  count =
-      let l = length-input key msg fits in
-      let n = earlier (length (input key msg)) in
-      let e : length (leading n 0 (input key msg)) ≡ n = leading-count n in
-      rw (calls key msg fits, length-append, e, blocks (length key) (length msg) fits, ← l) (omega arith)
-
-  -- the last call's counter
-  last-counter : (z : Compression) (i : ℕ) → suc i ≡ length (compressions key msg) → getD (compressions key msg) i z .counter ≡ length (input key msg)
-  last-counter z i e =
-      let n = earlier (length (input key msg)) in
-      let k : length (leading n 0 (input key msg)) ≡ n = leading-count n in
-      let c : length (compressions key msg) ≡ suc n = rw (calls key msg fits, length-append, k) (omega arith) in
-      let j : length (leading n 0 (input key msg)) ≡ i = omega arith in
-      rw (calls key msg fits, getD-at (leading n 0 (input key msg)) _ [] z i j)
-
-unkeyed-count : (msg : List ℕ) → 0 < length msg → length (compressions [] msg) ≡ (length msg + 63) / 64
-unfolding blockCount
-unkeyed-count msg h = rw (count [] msg (omega arith), ne-eqb (0 + length msg) 0 (λ e. omega arith)) (omega arith)
-
-keyed-count : (key msg : List ℕ) → 0 < length key → length key ≤ 32 → length (compressions key msg) ≡ 1 + (length msg + 63) / 64
-unfolding blockCount
-keyed-count key msg p h = rw (count key msg h, ne-eqb (length key + length msg) 0 (λ e. omega arith)) (omega arith)
-
-full-last : (key msg : List ℕ) (k : ℕ) → length key ≤ 32 → length (input key msg) ≡ 64 * suc k
-    → compressions key msg
-    ≡ leading k 0 (input key msg) ++ record { block = drop (64 * k) (input key msg); counter = length (input key msg); last = true } ∷ []
-unfolding earlier
-full-last key msg k h e =
-    let d = input key msg in
-    let n : earlier (length d) ≡ k = omega arith in
-    let l : length (drop (64 * k) d) ≡ length d - 64 * k = length-drop (64 * k) d in
-    let b : blockAt d k ≡ drop (64 * k) d = block-full d k (omega arith) ∙ take-all 64 (drop (64 * k) d) (omega arith) in
-    rw (calls key msg h, n, b)
 
 -- the answer of a number
 answer : ℕ → Answer
@@ -103,22 +32,8 @@ answer-of MessageLength = refl
 same-number : (x y : Answer) → numberOf x ≡ numberOf y → x ≡ y
 same-number x y e = sym (answer-of x) ∙ ap answer e ∙ answer-of y
 
-pub hashing : Hashing
-unfolding sigma blockCount
-hashing = record {
-  orders = refl;
-  permutation = λ r h. (order-length r h, order-once r h);
-  by-table = over-table;
-  empty = count [] [] (omega arith);
-  unkeyed = unkeyed-count;
-  keyed = keyed-count;
-  full = full-last;
-  longest = λ key msg p h e z i j.
-      let l : length (input key msg) ≡ length msg + 64 = rw (length-input key msg h, ne-eqb (length key) 0 (λ o. omega arith)) in
-      last-counter key msg h z i j ∙ omega arith;
-  carry = λ h f e. (rw (← laid-out h (2 ^ 32 + 63) f e), rw (← laid-out h (2 ^ 32 + 63) f e));
-  number = same-number;
-}
+pub answers : Answers
+answers = record { number = same-number }
 
 accepted-begin : (key : List ℕ) (nn : ℕ) → beginNumber (length key) nn ≡ 0 → Lengths (length key) 0 nn
 unfolding beginNumber

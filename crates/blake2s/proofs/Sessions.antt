@@ -9,14 +9,16 @@ use lib.Dec.{ltb, eqb}
 use lib.ListN.{length, getD, length-append}
 use borrow.Author.Tests.{ltb-true, ltb-false}
 use Rattle.endian.specs.Lists.{padded}
-use Rattle.blake2s.specs.Rfc7693.{input, blockAt}
+use Rattle.rfc7693.specs.Rfc7693.{input, blockAt}
 use Rattle.blake2s.specs.Hash.{kept}
 use Rattle.blake2s.specs.Stream.{earlier, begun, extended, inRange, updateNumber, updateContext}
 use Rattle.blake2s.specs.Theorems.{run, numbers, joined}
 use Rattle.blake2s.specs.declared.Context.{Context}
-use Rattle.blake2s.proofs.Blocks.{length-padded, padded-full, block-last, after-zero}
+use Rattle.rfc7693.proofs.Blocks.{length-padded, padded-full, block-last}
+use Rattle.blake2s.proofs.Blocks.{after-zero}
 use Rattle.blake2s.proofs.Numbers.{size-range, update-message, update-accepted}
-use Rattle.blake2s.proofs.Streams.{begun-waits, begun-long, length-input, in-parts, stream-size}
+use Rattle.rfc7693.proofs.Calls.{length-input}
+use Rattle.blake2s.proofs.Streams.{begun-waits, begun-long, in-parts, stream-size}
 
 -- the block of the key alone
 key-block : (key : List ℕ) → length key ≤ 32 → blockAt (input key []) 0 ≡ padded 64 key

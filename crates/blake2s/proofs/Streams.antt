@@ -2,19 +2,21 @@
 use mathlib.Core.Path.{_≡_, refl, ap, sym, _∙_}
 use mathlib.Core.Bool.{Bool, true, false, cond, not}
 use mathlib.Core.List.{List, [], _∷_, _++_, append-assoc}
-use Prim.Native.Nat.{ℕ, suc, _+_, _-_, _*_, _/_, _≤_}
+use Prim.Native.Nat.{ℕ, _+_, _-_, _*_, _/_, _≤_}
 use native.Mathlib.Nat.{zero-add}
 use native.Mathlib.Omega.{arith}
 use lib.Dec.{eqb}
 use lib.ListN.{length, drop, length-append, length-drop}
 use lib.Seq.{drop-append-le, take-all}
-use borrow.Author.Tests.{ne-eqb, eqb-true, eqb-false}
+use borrow.Author.Tests.{ne-eqb}
 use Rattle.endian.specs.Lists.{padded}
-use Rattle.blake2s.specs.Rfc7693.{input, blockAt, blockCount, leading, compressions, compressed, initial, blake2s}
+use Rattle.rfc7693.specs.Rfc7693.{input, blockAt, leading, compressions, compressed, initial, blake2s}
 use Rattle.blake2s.specs.Stream.{earlier, total, done, waiting, begun, extended, closed}
 use Rattle.blake2s.specs.declared.Context.{Context}
 use Rattle.endian.proofs.Lists.{foldl-snoc}
-use Rattle.blake2s.proofs.Blocks.{length-padded, block-last, block-behind, after, after-split}
+use Rattle.rfc7693.proofs.Blocks.{length-padded, block-last, block-behind}
+use Rattle.rfc7693.proofs.Calls.{length-input, calls}
+use Rattle.blake2s.proofs.Blocks.{after, after-split}
 use Rattle.blake2s.proofs.Contexts.{last-fits, earlier-sum, total-extended, done-extended, waiting-extended}
 
 module _ (c : Context) (long : length (c .block) ≡ 64) (s e : List ℕ) where
@@ -61,37 +63,6 @@ begun-waits (k ∷ ks) msg nn h =
     let l : length (padded 64 (k ∷ ks)) ≡ 64 = length-padded (k ∷ ks) (omega arith) in
     rw (begun-total (k ∷ ks) nn, begun-done (k ∷ ks) nn, e) (ap (λ (x : List ℕ). x ++ msg) (take-all 64 (padded 64 (k ∷ ks)) (omega arith)))
 
--- the input's length is the counter of the last call,
-pub length-input : (key msg : List ℕ) → length key ≤ 32 → length (input key msg) ≡ cond (eqb (length key) 0) (length msg) (length msg + 64)
-unfolding input
-length-input [] msg h = refl
-length-input (k ∷ ks) msg h =
-    let e : eqb (length (k ∷ ks)) 0 ≡ false = ne-eqb (length (k ∷ ks)) 0 (λ z. omega arith) in
-    let l : length (padded 64 (k ∷ ks)) ≡ 64 = length-padded (k ∷ ks) (omega arith) in
-    rw (e, length-append, l) (omega arith)
-
--- and one block more than those before the final one is the number of blocks of RFC 7693
-pub blocks : (kk ll : ℕ) → kk ≤ 32 → blockCount kk ll ≡ suc (earlier (cond (eqb kk 0) ll (ll + 64)))
-unfolding blockCount earlier
-blocks kk ll h = go (eqb kk 0) (eqb (kk + ll) 0) refl refl
-  where
-    go : (x y : Bool) → eqb kk 0 ≡ x → eqb (kk + ll) 0 ≡ y → cond y 1 ((kk + 63) / 64 + (ll + 63) / 64) ≡ suc ((cond x ll (ll + 64) - 1) / 64)
-    go true true p q = let a = eqb-true kk 0 p in let b = eqb-true (kk + ll) 0 q in omega arith
-    go true false p q = let a = eqb-true kk 0 p in omega (arith, eqb-false (kk + ll) 0 q)
-    go false true p q = absurd (omega (arith, eqb-false kk 0 p, eqb-true (kk + ll) 0 q))
-    go false false p q = omega (arith, eqb-false kk 0 p)
-
--- the calls of F for a key and a message, by the number of blocks before the final one
-pub calls : (key msg : List ℕ) → length key ≤ 32
-    → compressions key msg
-    ≡ leading (earlier (length (input key msg))) 0 (input key msg) ++
-    record { block = blockAt (input key msg) (earlier (length (input key msg))); counter = length (input key msg); last = true } ∷ []
-unfolding compressions
-calls key msg h =
-    let l = length-input key msg h in
-    let b : blockCount (length key) (length msg) - 1 ≡ earlier (length (input key msg)) = rw (blocks (length key) (length msg) h, ← l) (omega arith) in
-    rw (b, ← l)
-
 module _ (key msg : List ℕ) (nn : ℕ) (fits : length key ≤ 32) where
   pub begun-long : length (begun key nn .block) ≡ 64
   unfolding begun
@@ -115,7 +86,7 @@ module _ (key msg : List ℕ) (nn : ℕ) (fits : length key ≤ 32) where
 
   -- a message that comes as one part
   pub streamed : closed (extended (begun key nn) msg) ≡ blake2s key msg nn
-  unfolding closed blake2s compressed
+  unfolding closed blake2s compressed earlier
   streamed =
       let c = begun key nn in
       let d = input key msg in
@@ -124,4 +95,5 @@ module _ (key msg : List ℕ) (nn : ℕ) (fits : length key ≤ 32) where
       let w : waiting (extended c msg) ≡ drop (64 * n) d = rw j at (waiting-extended c begun-long msg) in
       let t : total (extended c msg) ≡ length d = total-extended c begun-long msg ∙ begun-sum in
       let b : padded 64 (drop (64 * n) d) ≡ blockAt d n = sym (block-last d n (last-fits (length d) .1)) in
-      rw (w, t, b, calls key msg fits, foldl-snoc, stream-state, stream-size)
+      let k : compressions key msg ≡ leading n 0 d ++ record { block = blockAt d n; counter = length d; last = true } ∷ [] = calls key msg fits in
+      rw (w, t, b, k, foldl-snoc, stream-state, stream-size)

@@ -1,4 +1,3 @@
-pub mod Rfc7693
 pub mod Hash
 pub mod Stream
 pub mod Theorems

@@ -5,7 +5,7 @@ use mathlib.Core.Bool.{Bool, true, false, cond, not}
 use mathlib.Core.List.{List, _++_}
 use lib.Dec.{eqb}
 use lib.ListN.{length, take, replicate}
-use Rattle.blake2s.specs.Rfc7693.{bb, words, F, blockAt, leading, compressed, initial}
+use Rattle.rfc7693.specs.Rfc7693.{bb, words, F, blockAt, leading, compressed, initial}
 use Rattle.endian.specs.Endian.{bytes}
 use Rattle.endian.specs.Lists.{padded}
 use Rattle.blake2s.specs.Hash.{badSize, tooLong, kept, hashNumber}

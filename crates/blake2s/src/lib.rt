@@ -1,6 +1,5 @@
 // BLAKE2s (RFC 7693) with and without a key, in one call or in parts.
 // Document 01, "Hashing"; the definitions that the promises cite are those of specs/.
-mod compression;
 mod stream;
 
 ghost use mathlib.Core.Path.{_≡_};

@@ -1,13 +1,14 @@
 // RFC 7693, section 3.3, on a context. A block is compressed once a byte has come that stands behind it, so a full one waits.
 use super::Context;
-use super::compression::IV;
-use super::compression::compress;
+use compression::IV;
+use compression::compress;
 ghost use mathlib.Core.Path.{_≡_};
 ghost use Prim.Native.Nat.{_+_, _*_, _/_, _^_, _<_, _≤_};
 ghost use lib.Seq.{paste};
 ghost use lib.ListN.{length};
 ghost use Rattle.endian.specs.Lists.{padded};
-ghost use Rattle.blake2s.specs.Rfc7693.{initial};
+ghost use Rattle.endian.specs.Endian.{word};
+ghost use Rattle.rfc7693.specs.Rfc7693.{words, initial};
 ghost use Rattle.blake2s.specs.Steps.{compressedBlocks};
 ghost use Rattle.blake2s.specs.Stream.{earlier, total, done, waiting, begun, extended, closed, inRange};
 
@@ -28,16 +29,17 @@ fn first_state(kk: usize, nn: usize) -> [u32; 8]
     requires { ⌜ (kk ≤ 32) × (nn ≤ 32) ⌝ }
     ensures { λ r. ⌜ r ≡ initial kk nn ⌝ }
 {
+    let iv = IV;
     let k = kk as u32;
     [
-        IV[0] ^ 0x01010000 ^ (k << 8) ^ (nn as u32),
-        IV[1],
-        IV[2],
-        IV[3],
-        IV[4],
-        IV[5],
-        IV[6],
-        IV[7],
+        iv[0] ^ 0x01010000 ^ (k << 8) ^ (nn as u32),
+        iv[1],
+        iv[2],
+        iv[3],
+        iv[4],
+        iv[5],
+        iv[6],
+        iv[7],
     ]
 }
 
@@ -95,6 +97,38 @@ fn waiting_block(c: Context) -> [u8; 64]
     pad(&block[..n])
 }
 
+fn read_word(b: &[u8], i: usize) -> u32
+    requires { ⌜ i + 4 ≤ length (now b) ⌝ }
+    ensures { λ r. ⌜ r ≡ word (now (b .entry)) i ⌝ }
+{
+    endian::word(b[i], b[i + 1], b[i + 2], b[i + 3])
+}
+
+// The message words of a block.
+fn read_words(b: &[u8]) -> [u32; 16]
+    requires { ⌜ 64 ≤ length (now b) ⌝ }
+    ensures { λ r. ⌜ r ≡ words (now (b .entry)) ⌝ }
+{
+    [
+        read_word(b, 0),
+        read_word(b, 4),
+        read_word(b, 8),
+        read_word(b, 12),
+        read_word(b, 16),
+        read_word(b, 20),
+        read_word(b, 24),
+        read_word(b, 28),
+        read_word(b, 32),
+        read_word(b, 36),
+        read_word(b, 40),
+        read_word(b, 44),
+        read_word(b, 48),
+        read_word(b, 52),
+        read_word(b, 56),
+        read_word(b, 60),
+    ]
+}
+
 // The state after the first n blocks of d, each with the flag last; the first has the counter t. compress is called here and nowhere else,
 // so that LLVM inlines it into the loop: docs/PROVING.md, "Why the hash is fast".
 fn compress_blocks(h: [u32; 8], t: u64, d: &[u8], n: usize, last: bool) -> [u32; 8]
@@ -106,7 +140,8 @@ fn compress_blocks(h: [u32; 8], t: u64, d: &[u8], n: usize, last: bool) -> [u32;
     while i < n {
         let at = 64 * i;
         let end = at + 64;
-        let next = compress(s, &d[at..end], t + (at as u64), last);
+        let m = read_words(&d[at..end]);
+        let next = compress(s, &m, t + (at as u64), last);
         s = next;
         i = i + 1;
     }

@@ -2,7 +2,7 @@
 use Prim.Native.Nat.{ℕ, _+_}
 use mathlib.Core.Bool.{Bool, cond}
 use mathlib.Core.List.{List, [], _∷_, _++_}
-use Rattle.blake2s.specs.Rfc7693.{blake2s}
+use Rattle.rfc7693.specs.Rfc7693.{blake2s}
 
 -- bit 0: a user secret (USS) is used; bit 1: the record's mask has RESET_SEED (document 01: chained)
 abbrev pub domainOf : Bool → Bool → ℕ

@@ -6,7 +6,7 @@ ghost use mathlib.Core.List.{[], _++_, _∷_};
 ghost use mathlib.Core.Bool.{cond};
 ghost use Prim.Native.Nat.{_≤_};
 ghost use lib.ListN.{length};
-ghost use Rattle.blake2s.specs.Rfc7693.{blake2s};
+ghost use Rattle.rfc7693.specs.Rfc7693.{blake2s};
 ghost use Rattle.cdi.specs.Cdi.{domainOf, cdiOf};
 
 // The domain byte.

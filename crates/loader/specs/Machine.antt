@@ -6,7 +6,7 @@ use lib.Dec.{eqb, ltb}
 use lib.ListN.{length, take, set}
 use lib.Seq.{paste}
 use Rattle.framing.specs.Header.{Reading, good, stop, headerAt}
-use Rattle.blake2s.specs.Rfc7693.{blake2s}
+use Rattle.rfc7693.specs.Rfc7693.{blake2s}
 use Rattle.endian.specs.Endian.{bytes}
 use Rattle.cdi.specs.Cdi.{cdiOf}
 use Rattle.protocol.specs.Commands.{firmware, commandIn, loadIn, goodLoad, usesUss, carriedBy, placeOf, countIn, isLast}

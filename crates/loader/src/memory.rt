@@ -4,7 +4,7 @@ ghost use mathlib.Core.List.{[]};
 ghost use Prim.Native.Nat.{_+_, _≤_, _<_};
 ghost use lib.ListN.{length, take, replicate};
 ghost use lib.Seq.{paste};
-ghost use Rattle.blake2s.specs.Rfc7693.{blake2s};
+ghost use Rattle.rfc7693.specs.Rfc7693.{blake2s};
 ghost use Rattle.endian.specs.Endian.{bytes};
 ghost use Rattle.protocol.specs.Commands.{bytesOf, placeOf, countIn};
 ghost use Rattle.protocol.specs.Replies.{sent, putIn};

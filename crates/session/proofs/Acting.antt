@@ -10,7 +10,7 @@ use lib.ListN.{length, getD, take, drop, drop-of-length-le, length-append}
 use lib.Seq.{length-paste, take-paste, take-append-add, take-all}
 use borrow.Author.Tests.{eqb-true, eqb-false}
 use Rattle.framing.specs.Header.{headerAt}
-use Rattle.blake2s.specs.Rfc7693.{blake2s}
+use Rattle.rfc7693.specs.Rfc7693.{blake2s}
 use Rattle.endian.specs.Endian.{bytes}
 use Rattle.cdi.specs.Cdi.{cdiString, cdiOf}
 use Rattle.protocol.specs.Commands.{loadIn, goodLoad, usesUss, carriedBy, blocksFor, countIn, isLast}

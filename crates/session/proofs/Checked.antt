@@ -7,7 +7,7 @@ use native.Mathlib.Omega.{arith}
 use lib.ListN.{length}
 use borrow.Author.Tests.{eq-eqb, le-ltb}
 use Rattle.framing.specs.Header.{good, stop, headerAt}
-use Rattle.blake2s.proofs.Proved.{hashing}
+use Rattle.rfc7693.proofs.Proved.{hashing}
 use Rattle.cdi.proofs.Proved.{cdi}
 use Rattle.loader.specs.State.{inRange, live, idle}
 use Rattle.loader.specs.Answers.{continues, stopped, Outcome}

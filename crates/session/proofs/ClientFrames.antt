@@ -13,7 +13,7 @@ use borrow.Author.Tests.{eq-eqb, ne-eqb}
 use Rattle.framing.specs.Header.{good, headerAt, inField, endpoint}
 use Rattle.framing.proofs.Headers.{headers, fields-of}
 use Rattle.endian.specs.Endian.{word}
-use Rattle.blake2s.specs.Rfc7693.{blake2s}
+use Rattle.rfc7693.specs.Rfc7693.{blake2s}
 use Rattle.protocol.specs.Commands.{firmware, loadIn, carriedBy, blocksFor}
 use Rattle.protocol.specs.Replies.{written}
 use Rattle.endian.specs.Lists.{padded, All, Bytes}

@@ -7,7 +7,7 @@ use mathlib.Core.List.{List, [], _∷_}
 use native.Mathlib.Omega.{arith}
 use lib.ListN.{length, getD, take, drop, length-take, length-drop}
 use lib.Seq.{ext-getD}
-use Rattle.blake2s.specs.Rfc7693.{initial, compressions, compressed, blake2s}
+use Rattle.rfc7693.specs.Rfc7693.{initial, compressions, compressed, blake2s}
 use Rattle.endian.specs.Endian.{bytes, firstBytes}
 use Rattle.endian.proofs.Lists.{getD-each}
 use Rattle.endian.proofs.Words.{bytes-length}

@@ -7,7 +7,7 @@ use mathlib.Core.Bool.{true, false}
 use mathlib.Core.List.{List, [], _∷_}
 use lib.ListN.{length, getD}
 use Rattle.framing.specs.Header.{good, headerAt}
-use Rattle.blake2s.specs.Rfc7693.{compressions}
+use Rattle.rfc7693.specs.Rfc7693.{compressions}
 use Rattle.protocol.specs.Commands.{blocksFor, countIn}
 use Rattle.record.specs.Record.{typeField, numberIn}
 use Rattle.cdi.specs.Theorems.{Inputs, stringOf}

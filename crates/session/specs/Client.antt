@@ -7,7 +7,7 @@ use mathlib.Core.Bool.{true, false, cond}
 use mathlib.Core.List.{List, [], _∷_, _++_}
 use lib.Dec.{eqb}
 use lib.ListN.{length, getD, take, drop, replicate}
-use Rattle.blake2s.specs.Rfc7693.{blake2s}
+use Rattle.rfc7693.specs.Rfc7693.{blake2s}
 use Rattle.endian.specs.Endian.{bytes}
 use Rattle.cdi.specs.Cdi.{cdiString}
 use Rattle.framing.specs.Header.{good, headerAt}

@@ -9,7 +9,7 @@ use lib.Dec.{eqb}
 use lib.ListN.{length, getD, take, drop}
 use Rattle.endian.specs.Lists.{All}
 use Rattle.framing.specs.Header.{good, headerAt, inField, endpoint}
-use Rattle.blake2s.specs.Rfc7693.{blake2s}
+use Rattle.rfc7693.specs.Rfc7693.{blake2s}
 use Rattle.protocol.specs.Commands.{firmware, commandIn, loadIn, goodLoad, carriedBy, blocksFor}
 use Rattle.record.specs.Record.{typeField, maskField, requiredField, measuredIdField, fieldOf, numberIn, resetSeed}
 

@@ -19,16 +19,17 @@ abbrev μ-loop : tie.MeasureT-loop
 loop-holds : tie.Need-loop-holds Inv-loop μ-loop
 loop-holds c = (omega arith, rw (add-zero, sub-zero))
 
-compress-requires : tie.Need-compress-requires Inv-loop μ-loop
-compress-requires c κs = simp (length-take, length-drop) (omega arith)
+read-words-requires : tie.Need-read-words-requires Inv-loop μ-loop
+read-words-requires c κs = simp (length-take, length-drop) (omega arith)
 
 loop-again : tie.Need-loop-again Inv-loop μ-loop
 loop-again c =
-    let b = c .before .before .before in
+    let r = c .before .before in
+    let b = r .before .before .before in
     let a = b .before .before .args in
     let i = b .loop .i in
     let w : 64 * i + 64 - 64 * i ≡ 64 = omega arith in
-    (omega arith, rw (c .compress .ensures, w) (blocks-step (b .loop .s) (a .t) (a .d .now) (a .last) (a .n) i (omega arith) (omega arith) ∙ b .loop .inv .1))
+    (omega arith, rw (c .compress .ensures, r .read-words .ensures, w) (blocks-step (b .loop .s) (a .t) (a .d .now) (a .last) (a .n) i (omega arith) (omega arith) ∙ b .loop .inv .1))
 
 returns : tie.Need-returns Inv-loop μ-loop
 returns c =
@@ -49,8 +50,9 @@ compress-blocks-spec =
     (λ c. search needs)
     (λ c. search needs)
     (λ c. search needs)
+    read-words-requires
     (λ c. search needs)
-    compress-requires
+    (λ c κs. search needs)
     (λ c. search needs)
     (λ c. search needs)
     loop-again

@@ -1,13 +1,11 @@
 -- The law `extended-long`, with what the calls ensure.
 use mathlib.Core.Path.{_≡_, refl, sym}
-use Prim.Native.Nat.{_+_, _-_, _*_, _/_, _<_}
+use Prim.Native.Nat.{_-_, _<_}
 use native.Mathlib.Omega.{arith}
 use lib.ListN.{length, take, drop, length-take, length-drop}
 use lib.Seq.{length-take-le}
-use Rattle.blake2s.specs.Stream.{earlier}
 use Rattle.endian.proofs.Lists.{drop-whole}
-use Rattle.blake2s.proofs.Blocks.{blocks-one, after-blocks}
-use Rattle.blake2s.proofs.Contexts.{total-bound, extended-long}
+use Rattle.blake2s.proofs.Contexts.{total-bound, made-long}
 use borrow.Author.Needs.{needs}
 use Rattle.blake2s.proofs.stream.extended_long.Statement.{statement}
 use Rattle.blake2s.proofs.stream.extended_long.Tie as tie
@@ -74,24 +72,10 @@ returns c =
     let l = block-length z in
     let room = 64 - f .fill .result in
     let long : room < length (a .s .now) = omega arith in
-    let rest = drop room (a .s .now) in
-    let n = earlier (length rest) in
-    let v : 64 * n / 64 ≡ n = omega arith in
-    rw (
-      p .pad .ensures,
-      w .compress-blocks2 .ensures,
-      k .compress-blocks .ensures,
-      q .before-final .ensures .0,
-      drop-whole room (a .s .now),
-      v,
-      blocks-one _ _ _ _ (full-length u),
-      after-blocks _ (b .bytes-in .result + room) rest n,
-      u .append .ensures,
-      h .waiting-block .ensures,
-      b .bytes-in .ensures,
-      drop-whole (64 * n) rest,
-    )
-    (extended-long (a .c) l (a .s .now) (f .fill .result) room rest (f .fill .ensures .0) (f .fill .ensures .1) refl long refl)
+    let rest = take (length (a .s .now) - room) (drop room (a .s .now)) in
+    made-long (a .c) l (a .s .now) (f .fill .result) room rest (f .fill .ensures .0) (f .fill .ensures .1) refl long (drop-whole room (a .s .now))
+    (b .bytes-in .ensures) (h .waiting-block .ensures) (u .append .ensures) (full-length u) (k .compress-blocks .ensures)
+    (q .before-final .ensures .0) (w .compress-blocks2 .ensures) (p .pad .ensures)
 
 pub extended-long-spec : {M : Type 1} → statement M
 extended-long-spec =

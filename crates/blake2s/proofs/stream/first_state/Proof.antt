@@ -1,6 +1,6 @@
 -- The code is the definition: the first word has the parameter block, the others are the initialization vector.
 use mathlib.Core.Path.{refl}
-use Rattle.blake2s.specs.Rfc7693.{initial, iv}
+use Rattle.rfc7693.specs.Rfc7693.{initial, iv}
 use borrow.Author.Needs.{needs}
 use Rattle.blake2s.proofs.stream.first_state.Statement.{statement}
 use Rattle.blake2s.proofs.stream.first_state.Tie as tie

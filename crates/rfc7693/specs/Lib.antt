@@ -1,0 +1,2 @@
+pub mod Rfc7693
+pub mod Theorems
