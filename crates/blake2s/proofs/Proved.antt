@@ -9,7 +9,7 @@ use lib.ListN.{length, length-append}
 use borrow.Author.Tests.{ne-eqb}
 use Rattle.blake2s.specs.Hash.{numberOf, hashNumber, hashOutput}
 use Rattle.blake2s.specs.Stream.{begun, extended, inRange, beginNumber, beginContext, updateNumber, updateContext, finishNumber, finishOutput, refusedContext}
-use Rattle.blake2s.specs.Theorems.{Answers, Streamed, Streaming, run, numbers, joined}
+use Rattle.blake2s.specs.Theorems.{Streamed, Streaming, run, numbers, acceptedParts}
 use Rattle.blake2s.specs.declared.Context.{Context}
 use Rattle.blake2s.specs.declared.Answer.{Answer}
 use Rattle.blake2s.specs.declared.Answer.the-variants.{Accepted, ContextRange, OutputLength, KeyLength, MessageLength}
@@ -32,9 +32,6 @@ answer-of MessageLength = refl
 same-number : (x y : Answer) → numberOf x ≡ numberOf y → x ≡ y
 same-number x y e = sym (answer-of x) ∙ ap answer e ∙ answer-of y
 
-pub answers : Answers
-answers = record { number = same-number }
-
 accepted-begin : (key : List ℕ) (nn : ℕ) → beginNumber (length key) nn ≡ 0 → Lengths (length key) 0 nn
 unfolding beginNumber
 accepted-begin key nn e = accepted-lengths (length key) 0 nn e
@@ -44,11 +41,11 @@ module _ (key : List ℕ) (nn : ℕ) (accepted : beginNumber (length key) nn ≡
   unfolding beginContext
   begin-is = rw accepted (sym (begun-nil key nn (accepted-begin key nn accepted .fits)))
 
-  all-streamed : (parts : List (List ℕ)) → Streamed key nn (run (beginContext key nn) parts) (numbers (beginContext key nn) parts) (joined (beginContext key nn) parts)
+  all-streamed : (parts : List (List ℕ)) → Streamed key nn (run (beginContext key nn) parts) (numbers (beginContext key nn) parts) (acceptedParts (beginContext key nn) parts)
   unfolding finishOutput hashOutput
   all-streamed parts =
       let b = accepted-begin key nn accepted in
-      let x = joined (extended (begun key nn) []) parts in
+      let x = acceptedParts (extended (begun key nn) []) parts in
       let c = extended (begun key nn) x in
       let r = runs key nn (b .fits) (b .some) (b .small) parts [] (omega arith) in
       let g : inRange c ≡ true = at-range key nn (b .fits) (b .some) (b .small) x in
@@ -112,6 +109,7 @@ refused-is key nn h = rw (ne-eqb (beginNumber (length key) nn) 0 h)
 pub streaming : Streaming
 unfolding updateNumber updateContext finishNumber inRange refusedContext
 streaming = record {
+      answers = same-number;
   streamed = λ key nn parts a. all-streamed key nn a parts;
   both = λ c s e. (both-to-one c s e, one-to-both c s e);
   composed = compose;

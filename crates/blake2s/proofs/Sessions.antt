@@ -12,7 +12,7 @@ use Rattle.endian.specs.Lists.{padded}
 use Rattle.rfc7693.specs.Rfc7693.{input, blockAt}
 use Rattle.blake2s.specs.Hash.{kept}
 use Rattle.blake2s.specs.Stream.{earlier, begun, extended, inRange, updateNumber, updateContext}
-use Rattle.blake2s.specs.Theorems.{run, numbers, joined}
+use Rattle.blake2s.specs.Theorems.{run, numbers, acceptedParts}
 use Rattle.blake2s.specs.declared.Context.{Context}
 use Rattle.rfc7693.proofs.Blocks.{length-padded, padded-full, block-last}
 use Rattle.blake2s.proofs.Blocks.{after-zero}
@@ -90,16 +90,16 @@ module _ (key : List ℕ) (nn : ℕ) (fits : length key ≤ 32) (some : 0 < nn) 
     pub short : length (x ++ more) ≤ most
     pub quiet : (i : ℕ) → getD ns i 0 ≡ 1 → ⊥
 
-  pub runs : (ss : List (List ℕ)) (x : List ℕ) → length x ≤ most → Run x (run (at x) ss) (numbers (at x) ss) (joined (at x) ss)
-  unfolding run numbers joined
+  pub runs : (ss : List (List ℕ)) (x : List ℕ) → length x ≤ most → Run x (run (at x) ss) (numbers (at x) ss) (acceptedParts (at x) ss)
+  unfolding run numbers acceptedParts
   runs [] x h = record { last = rw append-nil; short = rw append-nil h; quiet = λ i e. omega arith }
   runs (s ∷ ss) x h =
-      by-update x s (λ (k : ℕ) (c : Context). Run x (run c ss) (k ∷ numbers c ss) (kept k s [] ++ joined c ss))
+      by-update x s (λ (k : ℕ) (c : Context). Run x (run c ss) (k ∷ numbers c ss) (kept k s [] ++ acceptedParts c ss))
       (λ l.
       let r = runs ss (x ++ s) (rw length-append l) in
       record {
-        last = rw (← append-assoc x s (joined (at (x ++ s)) ss)) (r .last);
-        short = rw (← append-assoc x s (joined (at (x ++ s)) ss)) (r .short);
+        last = rw (← append-assoc x s (acceptedParts (at (x ++ s)) ss)) (r .last);
+        short = rw (← append-assoc x s (acceptedParts (at (x ++ s)) ss)) (r .short);
         quiet = not-first 0 (numbers (at (x ++ s)) ss) (λ e. omega arith) (r .quiet);
       })
       (λ l.

@@ -1,4 +1,4 @@
--- What is proved about hashing besides the promises. The proofs are `answers` and `streaming` in proofs/Proved.antt.
+-- What is proved about hashing besides the promises. The proof is `streaming` in proofs/Proved.antt.
 use Prim.Native.Nat.{ℕ, _+_}
 use mathlib.Core.Path.{_≡_}
 use mathlib.Core.Bool.{true}
@@ -10,10 +10,6 @@ use Rattle.blake2s.specs.Stream.{inRange, beginNumber, beginContext, upd
 use Rattle.blake2s.specs.declared.Answer.{Answer}
 use Rattle.blake2s.specs.declared.Context.{Context}
 
-pub record Answers : Type 0 where
-  -- an answer is settled by its number
-  pub number : (x y : Answer) → numberOf x ≡ numberOf y → x ≡ y
-
 -- calls of update, one for each part, each on the context that the one before handed back: the last context,
 unfoldable pub run : Context → List (List ℕ) → Context
 run c [] = c
@@ -24,12 +20,12 @@ unfoldable pub numbers : Context → List (List ℕ) → List ℕ
 numbers c [] = []
 numbers c (s ∷ ss) = updateNumber c (length s) ∷ numbers (updateContext c s) ss
 
--- and the accepted parts, joined
-unfoldable pub joined : Context → List (List ℕ) → List ℕ
-joined c [] = []
-joined c (s ∷ ss) = kept (updateNumber c (length s)) s [] ++ joined (updateContext c s) ss
+-- and the accepted parts, one after the other
+unfoldable pub acceptedParts : Context → List (List ℕ) → List ℕ
+acceptedParts c [] = []
+acceptedParts c (s ∷ ss) = kept (updateNumber c (length s)) s [] ++ acceptedParts (updateContext c s) ss
 
--- a hash begun with a key for nn bytes: its context c, after updates that answered these numbers, of which the accepted parts joined are x
+-- a hash begun with a key for nn bytes: its context c, after updates that answered these numbers, of which the accepted parts are x
 pub record Streamed (key : List ℕ) (nn : ℕ) (c : Context) (answers x : List ℕ) : Type 0 where
   -- the context is in range, and no call has answered 1 or will
   pub range : inRange c ≡ true
@@ -40,9 +36,11 @@ pub record Streamed (key : List ℕ) (nn : ℕ) (c : Context) (answers x : List 
   pub same : (out : List ℕ) → length out ≡ nn → finishOutput c out ≡ hashOutput key x out
 
 pub record Streaming : Type 0 where
+  -- the number settles the answer
+  pub answers : (x y : Answer) → numberOf x ≡ numberOf y → x ≡ y
   -- so it is after every accepted begin, for every list of updates, refused ones included
   pub streamed : (key : List ℕ) (nn : ℕ) (parts : List (List ℕ)) → beginNumber (length key) nn ≡ 0
-      → Streamed key nn (run (beginContext key nn) parts) (numbers (beginContext key nn) parts) (joined (beginContext key nn) parts)
+      → Streamed key nn (run (beginContext key nn) parts) (numbers (beginContext key nn) parts) (acceptedParts (beginContext key nn) parts)
   -- two parts are as one part of both: they are accepted as it is,
   pub both : (c : Context) (s e : List ℕ)
       → ((updateNumber c (length s) ≡ 0) × (updateNumber (updateContext c s) (length e) ≡ 0)) ↔ (updateNumber c (length (s ++ e)) ≡ 0)

@@ -142,7 +142,7 @@ pub fn hash(key: &[u8], msg: &[u8], out: &mut [u8]) -> Answer
 }
 
 // The number that document 01 gives an answer; 0 where the call is accepted.
-pub fn number(a: Answer) -> u32
+pub fn answer_number(a: Answer) -> u32
     ensures { λ r. ⌜ r ≡ numberOf a ⌝ }
 {
     match a {
@@ -160,5 +160,5 @@ pub extern "C" fn mastfrap_blake2s(key: &[u8], msg: &[u8], out: &mut [u8]) -> u3
     ensures { λ r. ⌜ (r ≡ hashNumber (length (now (key .entry))) (length (now (msg .entry))) (length (now (out .entry)))) × (now (out .exit) ≡ hashOutput (now (key .entry)) (now (msg .entry)) (now (out .entry))) ⌝ }
 {
     let a = hash(key, msg, out);
-    number(a)
+    answer_number(a)
 }

@@ -83,5 +83,5 @@ fn write_output(out: [u8; 255]) {
 }
 
 fn write_answer(a: Answer) {
-    image::write_word(blake2s::number(a));
+    image::write_word(blake2s::answer_number(a));
 }
