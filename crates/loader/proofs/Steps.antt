@@ -1,32 +1,30 @@
 -- Outcomes put together from what the callees ensure, over variables, so that what is rewritten stays small.
-use Prim.Native.Nat.{ℕ, _+_, _≤_}
-use mathlib.Core.Bool.{Bool, true, false, not, cond}
+use Prim.Native.Nat.{ℕ, _+_}
+use mathlib.Core.Bool.{Bool, true, false}
 use mathlib.Core.Path.{_≡_, refl, sym, ap, _∙_}
 use mathlib.Core.List.{List}
-use native.Mathlib.Omega.{arith}
-use lib.Dec.{eqb, ltb}
+use lib.Dec.{eqb}
 use lib.ListN.{length, getD}
-use borrow.Author.Tests.{ltb-false, eqb-true, not-false}
 use Rattle.framing.specs.Header.{headerAt}
 use Rattle.protocol.specs.Commands.{bytesOf, loadIn, goodLoad}
 use Rattle.protocol.specs.Replies.{sent, loadReply, digestReply, putIn}
 use Rattle.protocol.specs.declared.Frame.{Frame}
 use Rattle.protocol.specs.declared.Load.{Load}
 use Rattle.protocol.specs.declared.Reply.{Reply}
-use Rattle.loader.specs.State.{bodyLen, inRange, live, ended}
-use Rattle.loader.specs.Answers.{refusalNumber, outcome}
-use Rattle.loader.specs.Machine.{replying, loadOf, takes, loaded, loadAnswer, afterLoad, allowed, starting, finishedWith, actionIn, performed, acted, refusal, withIncoming, gathered, afterByte, processed, step}
+use Rattle.head.specs.State.{bodyLen, ended}
+use Rattle.head.specs.Answers.{refusalNumber, outcome}
+use Rattle.head.specs.Machine.{replying, loadOf, takes, loaded, loadAnswer, afterLoad, allowed, starting, finishedWith, actionIn, performed, acted, refusal, withIncoming, gathered, afterByte, processed, step}
 use Rattle.loader.specs.Steps.{plainly, frameOf}
-use Rattle.loader.specs.declared.Phase.the-variants as phase
-use Rattle.loader.specs.declared.Refusal.{Refusal}
-use Rattle.loader.specs.declared.Refusal.the-variants.{StateRange, Ended, ReplyRoom, RamLength, SecretLength, RecordLength, RamSize}
-use Rattle.loader.specs.declared.Answer.the-variants.{Refused, Continue, Stopped}
-use Rattle.loader.specs.declared.Stop.the-variants.{Digest}
-use Rattle.loader.specs.declared.State.{State}
-use Rattle.loader.specs.declared.Received.{Received}
-use Rattle.loader.specs.declared.gathering.Step.{Step}
-use Rattle.loader.specs.declared.gathering.Gathered.{Gathered}
-use Rattle.loader.specs.declared.acting.Action.{Action}
+use Rattle.head.specs.declared.Phase.the-variants as phase
+use Rattle.head.specs.declared.Refusal.{Refusal}
+use Rattle.head.specs.declared.Refusal.the-variants.{StateRange, Ended, ReplyRoom, RamLength, SecretLength, RecordLength, RamSize}
+use Rattle.head.specs.declared.Answer.the-variants.{Refused, Continue, Stopped}
+use Rattle.head.specs.declared.Stop.the-variants.{Digest}
+use Rattle.head.specs.declared.State.{State}
+use Rattle.head.specs.declared.Received.{Received}
+use Rattle.head.specs.declared.Step.{Step}
+use Rattle.head.specs.declared.Gathered.{Gathered}
+use Rattle.head.specs.declared.Action.{Action}
 
 -- a reply after which the session goes on
 pub replies : (q r : Reply) (s : State) (x : Received) (room room' ram ram' uds : List ℕ) → r ≡ q → x ≡ plainly Continue (r .len + 1) s
@@ -97,37 +95,3 @@ pub refused-as : (s : State) (b : ℕ) (room ram uds : List ℕ) (w : Refusal) (
     → refusalNumber w ≡ refusal s (length room) (length ram) (length uds) → outcome x room ram uds ≡ step s b room ram uds
 unfolding step
 refused-as s b room ram uds w x ex e = rw (ex, ← e, numbered w)
-
--- a call that is not refused
-pub admitted-as : (s : State) (b : ℕ) (room ram uds : List ℕ) → 0 ≡ refusal s (length room) (length ram) (length uds)
-    → processed s b room ram uds ≡ step s b room ram uds
-unfolding step
-admitted-as s b room ram uds e = rw (← e)
-
--- what a call that is not refused has
-pub record Admitted (s : State) (room ram uds : ℕ) : Type 0 where
-  pub range : inRange s ≡ true
-  pub goes : live (s .progress .phase) ≡ true
-  pub room-fits : 129 ≤ room
-  pub ram-same : ram ≡ s .config .«ram_len»
-  pub words : uds ≡ 8
-
-not-then : (t : Bool) (k x : ℕ) → (k ≡ 0 → ⊥) → cond t k x ≡ 0 → (t ≡ false) × (x ≡ 0)
-not-then true k x h e = absurd (h e)
-not-then false k x h e = (refl, e)
-
-pub admitted : (s : State) (room ram uds : ℕ) → refusal s room ram uds ≡ 0 → Admitted s room ram uds
-unfolding refusal
-admitted s room ram uds e =
-    let a = not-then (not (inRange s)) 1 _ (omega arith) e in
-    let b = not-then (not (live (s .progress .phase))) 2 _ (omega arith) (a .1) in
-    let c = not-then (ltb room 129) 3 _ (omega arith) (b .1) in
-    let d = not-then (not (eqb ram (s .config .«ram_len»))) 4 _ (omega arith) (c .1) in
-    let f = not-then (not (eqb uds 8)) 5 0 (omega arith) (d .1) in
-    record {
-      range = not-false (inRange s) (a .0);
-      goes = not-false (live (s .progress .phase)) (b .0);
-      room-fits = ltb-false room 129 (c .0);
-      ram-same = eqb-true ram (s .config .«ram_len») (not-false (eqb ram (s .config .«ram_len»)) (d .0));
-      words = eqb-true uds 8 (not-false (eqb uds 8) (f .0));
-    }

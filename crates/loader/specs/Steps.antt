@@ -2,11 +2,11 @@
 use Prim.Native.Nat.{ℕ}
 use Rattle.protocol.specs.declared.Frame.{Frame}
 use Rattle.endian.specs.Lists.{zeros}
-use Rattle.loader.specs.Answers.{refusalNumber}
-use Rattle.loader.specs.declared.Incoming.{Incoming}
-use Rattle.loader.specs.declared.State.{State}
-use Rattle.loader.specs.declared.Answer.{Answer}
-use Rattle.loader.specs.declared.Received.{Received}
+use Rattle.head.specs.Answers.{refusalNumber}
+use Rattle.head.specs.declared.Incoming.{Incoming}
+use Rattle.head.specs.declared.State.{State}
+use Rattle.head.specs.declared.Answer.{Answer}
+use Rattle.head.specs.declared.Received.{Received}
 use Rattle.loader.specs.declared.Admission.{Admission}
 use Rattle.loader.specs.declared.Admission.the-variants.{Admitted, Refused}
 

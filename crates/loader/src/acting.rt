@@ -5,33 +5,22 @@ ghost use Prim.Native.Nat.{ℕ, _+_, _<_, _≤_};
 ghost use mathlib.Core.List.{List};
 ghost use lib.ListN.{length};
 ghost use Rattle.protocol.specs.Replies.{sent, putIn};
-ghost use Rattle.loader.specs.State.{progressOk, loadingOk, ended};
-ghost use Rattle.loader.specs.Answers.{outcome};
-ghost use Rattle.loader.specs.Machine.{between, actionIn, actionWaiting, actionLoading, loaded, afterLoad, loadAnswer, nextBlock, allowed, starting, finished, actedBlock, acted};
+ghost use Rattle.head.specs.State.{progressOk, loadingOk, ended};
+ghost use Rattle.head.specs.Answers.{outcome};
+ghost use Rattle.head.specs.Machine.{between, loaded, afterLoad, loadAnswer, nextBlock, allowed, starting, finished, actedBlock, acted};
 ghost use Rattle.loader.specs.Steps.{plainly, frameOf};
-use super::Answer;
-use super::Config;
-use super::Incoming;
-use super::Phase;
-use super::Progress;
-use super::Received;
-use super::State;
-use super::Stop;
+use head::Action;
+use head::Answer;
+use head::Config;
+use head::Incoming;
+use head::Phase;
+use head::Progress;
+use head::Received;
+use head::State;
+use head::Stop;
 use protocol::Frame;
 use protocol::Load;
 use protocol::Reply;
-
-// What a whole frame asks for.
-pub enum Action {
-    Name,
-    Udi,
-    Load,
-    Block,
-    // The command is not allowed in this phase, or unknown.
-    WrongCommand,
-    // The command has another body length.
-    WrongLength,
-}
 
 // An answer with neither CDI nor digest.
 pub fn plain(answer: Answer, reply: usize, state: State) -> Received
@@ -53,60 +42,8 @@ pub fn stop(why: Stop, s: State) -> Received
     plain(
         Answer::Stopped(why),
         0,
-        super::states::ended(Phase::Stopped, s.config.ram_len),
+        head::ended(Phase::Stopped, s.config.ram_len),
     )
-}
-
-// A command while waiting, by its number and its body's length.
-fn action_waiting(command: u8, len: u8) -> Action
-    ensures { λ r. ⌜ r ≡ actionWaiting command len ⌝ }
-{
-    match command {
-        0x01 => if len == 1 {
-            Action::Name
-        } else {
-            Action::WrongLength
-        },
-        0x08 => if len == 1 {
-            Action::Udi
-        } else {
-            Action::WrongLength
-        },
-        0x03 => if len == 128 {
-            Action::Load
-        } else {
-            Action::WrongLength
-        },
-        0x05 => Action::WrongCommand,
-        0 | 2 | 4 | 6..=7 | 9..=255 => Action::WrongCommand,
-    }
-}
-
-// A command while loading.
-fn action_loading(command: u8, len: u8) -> Action
-    ensures { λ r. ⌜ r ≡ actionLoading command len ⌝ }
-{
-    match command {
-        0x05 => if len == 128 {
-            Action::Block
-        } else {
-            Action::WrongLength
-        },
-        0x01 | 0x03 | 0x08 => Action::WrongCommand,
-        0 | 2 | 4 | 6..=7 | 9..=255 => Action::WrongCommand,
-    }
-}
-
-// A command.
-fn decide(phase: Phase, command: u8, len: u8) -> Action
-    ensures { λ r. ⌜ r ≡ actionIn phase command len ⌝ }
-{
-    match phase {
-        Phase::Waiting => action_waiting(command, len),
-        Phase::Loading => action_loading(command, len),
-        Phase::Started => Action::WrongCommand,
-        Phase::Stopped => Action::WrongCommand,
-    }
 }
 
 // The frame that was gathered.
@@ -127,7 +64,7 @@ fn answer(s: State, p: Progress, r: Reply, room: &mut [u8]) -> Received
     ensures { λ x. ⌜ (x ≡ plainly Answer.Continue (r .len + 1) (between s p)) × (now (room .exit) ≡ putIn (now (room .entry)) (sent r)) ⌝ }
 {
     super::memory::put(room, r);
-    let incoming = super::states::idle();
+    let incoming = head::idle();
     let config = s.config;
     let next = State {
         incoming,
@@ -185,7 +122,7 @@ fn allowed(c: Config, digest: [u8; 32]) -> bool
         return true;
     }
     let required = c.required;
-    super::memory::equal(&digest, &required)
+    head::equal(&digest, &required)
 }
 
 // A start: the device secret is read, and then cleared.
@@ -206,7 +143,7 @@ fn start(s: State, digest: [u8; 32], uds: &mut [u32]) -> Received
             size: p.size,
         },
         reply: 129,
-        state: super::states::ended(Phase::Started, c.ram_len),
+        state: head::ended(Phase::Started, c.ram_len),
         cdi,
         digest,
     }
@@ -230,7 +167,7 @@ fn finish(s: State, room: &mut [u8], ram: &mut [u8], uds: &mut [u32]) -> Receive
     plain(
         Answer::Stopped(Stop::Digest),
         129,
-        super::states::ended(Phase::Stopped, c.ram_len),
+        head::ended(Phase::Stopped, c.ram_len),
     )
 }
 
@@ -265,12 +202,12 @@ pub fn act(s: State, room: &mut [u8], ram: &mut [u8], uds: &mut [u32]) -> Receiv
     let body = i.body;
     let c = s.config;
     let udi = c.udi;
-    match decide(phase, body[0], super::states::body_len(i.header)) {
-        Action::Name => answer(s, p, protocol::name_reply(i.header), room),
-        Action::Udi => answer(s, p, protocol::udi_reply(i.header, udi), room),
-        Action::Load => act_load(s, room),
-        Action::Block => act_block(s, room, ram, uds),
-        Action::WrongCommand => stop(Stop::Command, s),
-        Action::WrongLength => stop(Stop::BodyLength, s),
+    match head::decide(phase, body[0], head::body_len(i.header)) {
+        Action::AnswerName => answer(s, p, protocol::name_reply(i.header), room),
+        Action::AnswerUdi => answer(s, p, protocol::udi_reply(i.header, udi), room),
+        Action::TakeLoad => act_load(s, room),
+        Action::TakeBlock => act_block(s, room, ram, uds),
+        Action::StopCommand => stop(Stop::Command, s),
+        Action::StopLength => stop(Stop::BodyLength, s),
     }
 }

@@ -1,10 +1,10 @@
 -- What the byte leads to (`led`) says which definition the outcome is.
 use mathlib.Core.Path.{_≡_, refl, sym, _∙_}
 use native.Mathlib.Omega.{arith}
-use Rattle.loader.specs.Machine.{withIncoming, afterByte, processed}
-use Rattle.loader.specs.declared.State.{State}
-use Rattle.loader.specs.declared.gathering.Step.{Step}
-use Rattle.loader.proofs.Ranges.{range-facts}
+use Rattle.head.specs.Machine.{withIncoming, afterByte, processed}
+use Rattle.head.specs.declared.State.{State}
+use Rattle.head.specs.declared.Step.{Step}
+use Rattle.head.proofs.Ranges.{range-facts}
 use Rattle.loader.proofs.Steps.{processed-as}
 use borrow.Author.Needs.{needs}
 use Rattle.loader.proofs.process.Statement.{statement}

@@ -1,5 +1,6 @@
 -- A refusal is the number that admit gives; otherwise the call has what process asks for.
-use Rattle.loader.proofs.Steps.{refused-as, admitted-as, admitted}
+use Rattle.head.proofs.Admitted.{admitted-as, admitted}
+use Rattle.loader.proofs.Steps.{refused-as}
 use Rattle.loader.specs.declared.Admission.{Admission}
 use Rattle.loader.specs.Steps.{admissionNumber}
 use lib.ListN.{length}

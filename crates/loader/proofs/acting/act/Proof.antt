@@ -3,9 +3,9 @@ use mathlib.Core.Path.{_≡_, refl, sym, _∙_}
 use native.Mathlib.Omega.{arith}
 use lib.ListN.{length}
 use Rattle.protocol.specs.Replies.{nameReply, udiReply}
-use Rattle.loader.specs.Machine.{between, afterLoad, loadAnswer, performed, acted}
-use Rattle.loader.specs.declared.acting.Action.{Action}
-use Rattle.loader.proofs.Ranges.{block-loading}
+use Rattle.head.specs.Machine.{between, afterLoad, loadAnswer, performed, acted}
+use Rattle.head.specs.declared.Action.{Action}
+use Rattle.head.proofs.Ranges.{block-loading}
 use Rattle.loader.proofs.Steps.{replies, acted-as}
 use borrow.Author.Needs.{needs}
 use Rattle.loader.proofs.acting.act.Statement.{statement}

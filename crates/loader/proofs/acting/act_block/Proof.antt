@@ -7,8 +7,8 @@ use lib.ListN.{length}
 use Rattle.protocol.specs.Commands.{bytesOf}
 use Rattle.protocol.specs.Replies.{blockReply}
 use Rattle.protocol.specs.declared.Frame.{Frame}
-use Rattle.loader.specs.Machine.{frameIn, storedIn, finished, between, nextBlock, actedBlock}
-use Rattle.loader.proofs.Ranges.{Loaded, loading-facts, block-within}
+use Rattle.head.specs.Machine.{frameIn, storedIn, finished, between, nextBlock, actedBlock}
+use Rattle.head.proofs.Ranges.{Loaded, loading-facts, block-within}
 use Rattle.loader.proofs.Steps.{replies}
 use borrow.Author.Needs.{needs}
 use Rattle.loader.proofs.acting.act_block.Statement.{statement}

@@ -5,7 +5,7 @@ use mathlib.Core.List.{List}
 use native.Mathlib.Omega.{arith}
 use Rattle.protocol.specs.Replies.{sent, digestReply, putIn}
 use Rattle.protocol.specs.declared.Reply.{Reply}
-use Rattle.loader.specs.Machine.{finishedWith, finished}
+use Rattle.head.specs.Machine.{finishedWith, finished}
 use Rattle.loader.proofs.Steps.{ends-in-start, ends-in-stop}
 use borrow.Author.Needs.{needs}
 use Rattle.loader.proofs.acting.finish.Statement.{statement}

@@ -1,5 +1,5 @@
 -- The part is filled whole.
-use Rattle.loader.proofs.Bytes.{put-part}
+use Rattle.loader.proofs.Copies.{put-part}
 use Prim.Native.Nat.{_+_, _-_}
 use lib.ListN.{length}
 use native.Mathlib.Omega.{arith}

@@ -1,5 +1,5 @@
 -- The header, then the body after it.
-use Rattle.loader.proofs.Bytes.{put-front}
+use Rattle.loader.proofs.Copies.{put-front}
 use lib.ListN.{length, take, length-set, length-take}
 use native.Mathlib.Omega.{arith}
 use mathlib.Core.Path.{_≡_, _∙_}

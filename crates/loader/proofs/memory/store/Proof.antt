@@ -1,6 +1,6 @@
 -- The part of the body that the block carries, and no more.
 use Rattle.protocol.specs.Commands.{placeOf, countIn}
-use Rattle.loader.proofs.Bytes.{paste-part}
+use Rattle.loader.proofs.Copies.{paste-part}
 use Prim.Native.Nat.{_+_, _-_, _≤_}
 use lib.ListN.{length, drop, length-drop}
 use native.Mathlib.Omega.{arith}
