@@ -2,8 +2,8 @@
 // compares the output with what its independent programs say. The input has the number of calls in four bytes and then 320 bytes for each;
 // byte 0 of a call says which it is.
 mod hash;
-mod head;
 mod image;
+mod session;
 mod small;
 
 use blake2s::Context;
@@ -47,8 +47,8 @@ fn read_call() -> [u8; 320] {
 
 fn call(k: Kept, c: [u8; 320]) -> Kept {
     match c[0] {
-        0 => head::begin(k, c),
-        1 => head::receive(head::set(k, c), c),
+        0 => session::begin(k, c),
+        1 => session::receive(session::set(k, c), c),
         2 => hash::begin(k, c),
         3 => hash::update(k, c),
         4 => hash::finish(k, c),
