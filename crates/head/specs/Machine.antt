@@ -76,6 +76,13 @@ actionIn phase.Loading c n = actionLoading c n
 actionIn phase.Started c n = action.StopCommand
 actionIn phase.Stopped c n = action.StopCommand
 
+-- the bytes of the frame that was gathered
+abbrev pub frameIn : State → List ℕ
+frameIn s = s .incoming .header ∷ s .incoming .body
+
+abbrev pub actionOf : State → Action
+actionOf s = actionIn (s .progress .phase) (commandIn (frameIn s)) (bodyLen (headerAt (s .incoming .header)))
+
 -- ---- what is then done: "Commands and replies"
 
 -- an outcome with neither CDI nor digest
@@ -94,10 +101,6 @@ replying r s room ram uds = plain continues (r .len + 1) s (putIn room (sent r))
 -- the state between frames
 abbrev pub between : State → Progress → State
 between s p = record { incoming = idle; config = s .config; progress = p }
-
--- the bytes of the frame that was gathered
-abbrev pub frameIn : State → List ℕ
-frameIn s = s .incoming .header ∷ s .incoming .body
 
 -- the load that the frame is, and whether it is taken
 abbrev pub loadOf : State → Load
@@ -177,8 +180,7 @@ performed action.StopLength s room ram uds = stopping 24 s room ram uds
 
 -- a whole frame for the firmware
 unfoldable pub acted : State → List ℕ → List ℕ → List ℕ → Outcome
-acted s room ram uds =
-    performed (actionIn (s .progress .phase) (commandIn (frameIn s)) (bodyLen (headerAt (s .incoming .header)))) s room ram uds
+acted s room ram uds = performed (actionOf s) s room ram uds
 
 -- ---- a call: "Numbers of refused calls and of stops"
 

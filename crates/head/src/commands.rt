@@ -1,8 +1,10 @@
 // What a whole frame asks for: document 01, the table of commands.
 ghost use mathlib.Core.Path.{_≡_};
-ghost use Rattle.head.specs.Machine.{actionIn, actionWaiting, actionLoading};
+ghost use Rattle.head.specs.Machine.{actionIn, actionWaiting, actionLoading, actionOf};
 use super::Action;
 use super::Phase;
+use super::State;
+use super::states;
 
 // A command while waiting, by its number and its body's length.
 fn action_waiting(command: u8, len: u8) -> Action
@@ -45,7 +47,7 @@ fn action_loading(command: u8, len: u8) -> Action
 }
 
 // A command.
-pub fn decide(phase: Phase, command: u8, len: u8) -> Action
+fn action_in(phase: Phase, command: u8, len: u8) -> Action
     ensures { λ r. ⌜ r ≡ actionIn phase command len ⌝ }
 {
     match phase {
@@ -54,4 +56,15 @@ pub fn decide(phase: Phase, command: u8, len: u8) -> Action
         Phase::Started => Action::StopCommand,
         Phase::Stopped => Action::StopCommand,
     }
+}
+
+// The frame that was gathered.
+pub fn decide(s: State) -> Action
+    ensures { λ r. ⌜ r ≡ actionOf s ⌝ }
+{
+    let p = s.progress;
+    let phase = p.phase;
+    let i = s.incoming;
+    let body = i.body;
+    action_in(phase, body[0], states::body_len(i.header))
 }

@@ -4,11 +4,11 @@ ghost use mathlib.Core.Bool.{true};
 ghost use Prim.Native.Nat.{ℕ, _+_, _<_, _≤_};
 ghost use mathlib.Core.List.{List};
 ghost use lib.ListN.{length};
-ghost use Rattle.protocol.specs.Replies.{sent, putIn};
+ghost use Rattle.protocol.specs.Replies.{nameReply, udiReply};
 ghost use Rattle.head.specs.State.{progressOk, loadingOk, ended};
 ghost use Rattle.head.specs.Answers.{outcome};
 ghost use Rattle.head.specs.Machine.{between, loaded, afterLoad, loadAnswer, nextBlock, allowed, starting, finished, actedBlock, acted};
-ghost use Rattle.loader.specs.Steps.{plainly, frameOf};
+ghost use Rattle.loader.specs.Steps.{plainly, Replies, frameOf};
 use head::Action;
 use head::Answer;
 use head::Config;
@@ -61,7 +61,7 @@ fn frame(i: Incoming) -> Frame
 fn answer(s: State, p: Progress, r: Reply, room: &mut [u8]) -> Received
     requires { ⌜ 129 ≤ length (now room) ⌝ }
     requires { ⌜ r .len ≤ 128 ⌝ }
-    ensures { λ x. ⌜ (x ≡ plainly Answer.Continue (r .len + 1) (between s p)) × (now (room .exit) ≡ putIn (now (room .entry)) (sent r)) ⌝ }
+    ensures { λ x. ⌜ Replies x r (between s p) (now (room .entry)) (now (room .exit)) ⌝ }
 {
     super::memory::put(room, r);
     let incoming = head::idle();
@@ -72,6 +72,26 @@ fn answer(s: State, p: Progress, r: Reply, room: &mut [u8]) -> Received
         progress: p,
     };
     plain(Answer::Continue, r.len + 1, next)
+}
+
+// The name.
+fn answer_name(s: State, room: &mut [u8]) -> Received
+    requires { ⌜ 129 ≤ length (now room) ⌝ }
+    ensures { λ r. ⌜ Replies r (nameReply (s .incoming .header)) (between s (s .progress)) (now (room .entry)) (now (room .exit)) ⌝ }
+{
+    let p = s.progress;
+    answer(s, p, protocol::name_reply(s.incoming.header), room)
+}
+
+// The device's identity.
+fn answer_udi(s: State, room: &mut [u8]) -> Received
+    requires { ⌜ 129 ≤ length (now room) ⌝ }
+    ensures { λ r. ⌜ Replies r (udiReply (s .incoming .header) (s .config .udi)) (between s (s .progress)) (now (room .entry)) (now (room .exit)) ⌝ }
+{
+    let p = s.progress;
+    let c = s.config;
+    let udi = c.udi;
+    answer(s, p, protocol::udi_reply(s.incoming.header, udi), room)
 }
 
 // The progress after a load that is taken.
@@ -91,7 +111,7 @@ fn loaded(l: Load) -> Progress
 // A load: one that is not taken changes nothing.
 fn act_load(s: State, room: &mut [u8]) -> Received
     requires { ⌜ 129 ≤ length (now room) ⌝ }
-    ensures { λ r. ⌜ (r ≡ plainly Answer.Continue (loadAnswer s .len + 1) (between s (afterLoad s))) × (now (room .exit) ≡ putIn (now (room .entry)) (sent (loadAnswer s))) ⌝ }
+    ensures { λ r. ⌜ Replies r (loadAnswer s) (between s (afterLoad s)) (now (room .entry)) (now (room .exit)) ⌝ }
 {
     let i = s.incoming;
     let p = s.progress;
@@ -196,15 +216,9 @@ pub fn act(s: State, room: &mut [u8], ram: &mut [u8], uds: &mut [u32]) -> Receiv
     requires { ⌜ length (now uds) ≡ 8 ⌝ }
     ensures { λ r. ⌜ outcome r (now (room .exit)) (now (ram .exit)) (now (uds .exit)) ≡ acted s (now (room .entry)) (now (ram .entry)) (now (uds .entry)) ⌝ }
 {
-    let i = s.incoming;
-    let p = s.progress;
-    let phase = p.phase;
-    let body = i.body;
-    let c = s.config;
-    let udi = c.udi;
-    match head::decide(phase, body[0], head::body_len(i.header)) {
-        Action::AnswerName => answer(s, p, protocol::name_reply(i.header), room),
-        Action::AnswerUdi => answer(s, p, protocol::udi_reply(i.header, udi), room),
+    match head::decide(s) {
+        Action::AnswerName => answer_name(s, room),
+        Action::AnswerUdi => answer_udi(s, room),
         Action::TakeLoad => act_load(s, room),
         Action::TakeBlock => act_block(s, room, ram, uds),
         Action::StopCommand => stop(Stop::Command, s),

@@ -1,25 +1,10 @@
--- The phase decides.
+-- The command is the body's first byte.
 use borrow.Author.Needs.{needs}
 use Rattle.head.proofs.commands.decide.Statement.{statement}
 use Rattle.head.proofs.commands.decide.Tie as tie
 
 returns : tie.Need-returns
-returns c = rw (c .before .enum-told .given .1) (c .action-waiting .ensures)
-
-returns-2 : tie.Need-returns-2
-returns-2 c = rw (c .before .enum-told2 .given .1) (c .action-loading .ensures)
+returns c = rw (c .action-in .ensures, c .before .body-len .ensures)
 
 pub decide-spec : {M : Type 1} → statement M
-decide-spec =
-    tie.close
-    (tie.spec
-    (λ c. search needs)
-    (λ c κs. search needs)
-    (λ c. search needs)
-    (λ c κs. search needs)
-    (λ c. search needs)
-    (λ c. search needs)
-    returns
-    returns-2
-    (λ c. search needs)
-    (λ c. search needs))
+decide-spec = tie.close (tie.spec (λ c. search needs) (λ c κs. search needs) (λ c κs. search needs) returns)
