@@ -6,16 +6,17 @@ use mathlib.Core.Bool.{true, false}
 use mathlib.Core.Option.{Option, none, some}
 use mathlib.Core.List.{List, [], _∷_, _++_}
 use lib.ListN.{length, replicate}
-use Rattle.protocol.specs.Commands.{loadIn, goodLoad, usesUss}
+use Rattle.protocol.specs.Commands.{loadIn, goodLoad}
 use Rattle.endian.specs.Lists.{padded, zeros}
 use Rattle.protocol.specs.Replies.{sent, nameReply, udiReply, loadReply, blockReply, digestReply}
 use Rattle.protocol.specs.declared.Load.{Load}
 use Rattle.record.specs.Record.{recordAt}
 use Rattle.cdi.specs.Theorems.{Strings}
 use Rattle.head.specs.State.{idle, ended}
+use Rattle.head.specs.Machine.{loaded}
 use Rattle.head.specs.declared.Phase.{Phase}
 
--- a load of one byte, with a flag
+-- a load of one byte, with a flag; its user secret is zeros
 abbrev pub flagged : ℕ → Load
 flagged flag = loadIn (padded 129 (0x13 ∷ 0x03 ∷ 1 ∷ 0 ∷ 0 ∷ 0 ∷ flag ∷ []))
 
@@ -28,9 +29,10 @@ abbrev pub masked : ℕ → ℕ → ℕ → ℕ → List ℕ
 masked a b c d = padded 256 (4 ∷ 0 ∷ 0 ∷ 0 ∷ a ∷ b ∷ c ∷ d ∷ [])
 
 pub record KnownAnswers : Type 0 where
-  -- flags 0, 1, 2 and 255, in byte 6: 0 means that there is no user secret, 1 that it is used, and a load with another is not good
-  pub flags : (goodLoad 1 (flagged 0) ≡ true) × (usesUss (flagged 0) ≡ false) × (goodLoad 1 (flagged 1) ≡ true) × (usesUss (flagged 1) ≡ true)
-      × (goodLoad 1 (flagged 2) ≡ false) × (goodLoad 1 (flagged 255) ≡ false)
+  -- flags 0, 1, 2 and 255, in byte 6: 0 means that there is no user secret, 1 that it is used, also one of zeros, and a load with another is
+  -- not good
+  pub flags : (goodLoad 1 (flagged 0) ≡ true) × (loaded (flagged 0) .«uss_used» ≡ false) × (goodLoad 1 (flagged 1) ≡ true)
+      × (loaded (flagged 1) .«uss_used» ≡ true) × (goodLoad 1 (flagged 2) ≡ false) × (goodLoad 1 (flagged 255) ≡ false)
   -- types 0 to 6, and 0x01000004 and 0x00000104, of which the first byte is 4
   pub types : (typeOf 0 0 0 0 ≡ some 0) × (typeOf 1 0 0 0 ≡ some 1) × (typeOf 2 0 0 0 ≡ some 2) × (typeOf 3 0 0 0 ≡ some 3)
       × (typeOf 4 0 0 0 ≡ some 4) × (typeOf 5 0 0 0 ≡ some 5) × (typeOf 6 0 0 0 ≡ none) × (typeOf 4 0 0 1 ≡ none) × (typeOf 4 1 0 0 ≡ none)
