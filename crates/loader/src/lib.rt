@@ -53,6 +53,7 @@ enum Admission {
 fn admit(s: State, room: usize, ram: usize, uds: usize) -> Admission
     ensures { λ r. ⌜ admissionNumber r ≡ refusal s room ram uds ⌝ }
 {
+    let ram_len = s.config.ram_len;
     if !head::in_range(s) {
         return Admission::Refused(Refusal::StateRange);
     }
@@ -62,7 +63,7 @@ fn admit(s: State, room: usize, ram: usize, uds: usize) -> Admission
     if room < 129 {
         return Admission::Refused(Refusal::ReplyRoom);
     }
-    if ram != s.config.ram_len {
+    if ram != ram_len {
         return Admission::Refused(Refusal::RamLength);
     }
     if uds != 8 {
