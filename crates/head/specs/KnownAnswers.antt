@@ -1,5 +1,5 @@
--- What no theorem about sessions can fix, since a head and a reading of the same bytes would share the mistake: small facts about the
--- definitions, beside document 01, as one list. The proof is `known-answers` in proofs/KnownAnswers.antt.
+-- Known answers: loads, records, replies, states and strings as literal bytes, beside document 01. No theorem about sessions can fix them,
+-- since a head and a reading of the same bytes would share the mistake. The proof is `known-answers` in proofs/KnownAnswers.antt.
 use Prim.Native.Nat.{ℕ}
 use mathlib.Core.Path.{_≡_}
 use mathlib.Core.Bool.{true, false}

@@ -1,13 +1,13 @@
-// The head that a boot loader is: the types of its state and its answers, what a byte does to it (specs/), what is proved of that, and what
-// a state alone settles. `loader` has the two calls.
-// Document 01 in the terms of specs/: State (the state and its ranges), Answers (the paper's numbers), Begin, Machine (what each byte does).
+// A head as a state that bytes change: the types of the state and of the answers, what each byte does (specs/), what is proved of that, and
+// the code that goes by the state alone. `loader` has the calls.
+// Document 01 in the terms of specs/: State (the state and its ranges), Answers (the paper's numbers), Begin, Machine (what each byte does);
+// the theorems are Theorems and KnownAnswers.
 mod commands;
 mod states;
 
 ghost use mathlib.Core.Path.{_≡_};
 ghost use Rattle.head.specs.Answers.{refusalNumber, stopNumber};
 pub use commands::decide;
-pub use states::body_len;
 pub use states::ended;
 pub use states::equal;
 pub use states::idle;
@@ -141,7 +141,7 @@ pub struct Gathered {
     pub incoming: Incoming,
 }
 
-// What a whole frame asks for.
+// What is done with a whole frame.
 pub enum Action {
     AnswerName,
     AnswerUdi,

@@ -1,4 +1,4 @@
--- What the private functions of src/ give back, in the library's own types. A reader of the promises of `receive` does not need this file.
+-- What the private functions of src/ give back. A reader of the promises of `receive` does not need this file.
 use Prim.Native.Nat.{ℕ, _+_}
 use mathlib.Core.Path.{_≡_}
 use mathlib.Core.List.{List}

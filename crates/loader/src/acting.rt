@@ -74,7 +74,7 @@ fn answer(s: State, p: Progress, r: Reply, room: &mut [u8]) -> Received
     plain(Answer::Continue, r.len + 1, next)
 }
 
-// The name.
+// A query for the name.
 fn answer_name(s: State, room: &mut [u8]) -> Received
     requires { ⌜ 129 ≤ length (now room) ⌝ }
     ensures { λ r. ⌜ Replies r (nameReply (s .incoming .header)) (between s (s .progress)) (now (room .entry)) (now (room .exit)) ⌝ }
@@ -83,7 +83,7 @@ fn answer_name(s: State, room: &mut [u8]) -> Received
     answer(s, p, protocol::name_reply(s.incoming.header), room)
 }
 
-// The device's identity.
+// A query for the device's identity (UDI).
 fn answer_udi(s: State, room: &mut [u8]) -> Received
     requires { ⌜ 129 ≤ length (now room) ⌝ }
     ensures { λ r. ⌜ Replies r (udiReply (s .incoming .header) (s .config .udi)) (between s (s .progress)) (now (room .entry)) (now (room .exit)) ⌝ }
