@@ -8,6 +8,7 @@ use lib.Dec.{eqb, leb}
 use lib.ListN.{length, getD, take, drop, replicate, length-take, length-drop, length-append, length-replicate, take-append-drop}
 use lib.Seq.{take-all, take-at, drop-at}
 use borrow.Author.Tests.{eq-eqb, ne-eqb, eqb-true, eqb-false, le-leb, leb-true, le-ltb}
+use Rattle.endian.proofs.Cases.{impossible}
 use Rattle.framing.specs.Header.{Reading, good, stop, headerAt, headerByte}
 use Rattle.framing.proofs.Headers.{headers, fields-of}
 use Rattle.protocol.specs.Commands.{firmware, blocksFor, isLast}
@@ -83,7 +84,7 @@ header-is (good i ep m) id n e =
     let q : ep ≡ 2 = eqb-true ep firmware (d .0) in
     let r : m ≡ n = eqb-true m n (d .1) in
     rw (p, q, r)
-header-is (stop k) id n e = absurd (let w : _≡_ {A = ℕ} 0 1 = cc in omega arith)
+header-is (stop k) id n e = impossible cc
 
 byte-is : (b id n : ℕ) → b < 2 ^ 8 → headerAt b ≡ good id firmware n → b ≡ written (headerByte id firmware n)
 byte-is b id n l e = ap written (sym (headers .exact b id firmware n .0 (l, e)))

@@ -1,12 +1,17 @@
--- What the private functions of src/ give back, in the library's own types. A reader of the promises of `receive` does not need this file.
-use Prim.Native.Nat.{ℕ}
+-- What the private functions of src/ give back. A reader of the promises of `receive` does not need this file.
+use Prim.Native.Nat.{ℕ, _+_}
+use mathlib.Core.Path.{_≡_}
+use mathlib.Core.List.{List}
+use Rattle.protocol.specs.Replies.{sent, putIn}
 use Rattle.protocol.specs.declared.Frame.{Frame}
+use Rattle.protocol.specs.declared.Reply.{Reply}
 use Rattle.endian.specs.Lists.{zeros}
-use Rattle.loader.specs.Answers.{refusalNumber}
-use Rattle.loader.specs.declared.Incoming.{Incoming}
-use Rattle.loader.specs.declared.State.{State}
-use Rattle.loader.specs.declared.Answer.{Answer}
-use Rattle.loader.specs.declared.Received.{Received}
+use Rattle.head.specs.Answers.{refusalNumber}
+use Rattle.head.specs.declared.Incoming.{Incoming}
+use Rattle.head.specs.declared.State.{State}
+use Rattle.head.specs.declared.Answer.{Answer}
+use Rattle.head.specs.declared.Answer.the-variants.{Continue}
+use Rattle.head.specs.declared.Received.{Received}
 use Rattle.loader.specs.declared.Admission.{Admission}
 use Rattle.loader.specs.declared.Admission.the-variants.{Admitted, Refused}
 
@@ -18,6 +23,10 @@ admissionNumber (Refused r) = refusalNumber r
 -- an answer with neither CDI nor digest
 abbrev pub plainly : Answer → ℕ → State → Received
 plainly a n s = record { answer = a; reply = n; state = s; cdi = zeros 32; digest = zeros 32 }
+
+-- after the call the session goes on in state s, and the room has the reply q
+abbrev pub Replies : Received → Reply → State → List ℕ → List ℕ → Type 0
+Replies x q s room after = (x ≡ plainly Continue (q .len + 1) s) × (after ≡ putIn room (sent q))
 
 abbrev pub frameOf : Incoming → Frame
 frameOf i = record { header = i .header; body = i .body }

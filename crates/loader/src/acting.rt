@@ -4,34 +4,23 @@ ghost use mathlib.Core.Bool.{true};
 ghost use Prim.Native.Nat.{ℕ, _+_, _<_, _≤_};
 ghost use mathlib.Core.List.{List};
 ghost use lib.ListN.{length};
-ghost use Rattle.protocol.specs.Replies.{sent, putIn};
-ghost use Rattle.loader.specs.State.{progressOk, loadingOk, ended};
-ghost use Rattle.loader.specs.Answers.{outcome};
-ghost use Rattle.loader.specs.Machine.{between, actionIn, actionWaiting, actionLoading, loaded, afterLoad, loadAnswer, nextBlock, allowed, starting, finished, actedBlock, acted};
-ghost use Rattle.loader.specs.Steps.{plainly, frameOf};
-use super::Answer;
-use super::Config;
-use super::Incoming;
-use super::Phase;
-use super::Progress;
-use super::Received;
-use super::State;
-use super::Stop;
+ghost use Rattle.protocol.specs.Replies.{nameReply, udiReply};
+ghost use Rattle.head.specs.State.{progressOk, loadingOk, ended};
+ghost use Rattle.head.specs.Answers.{outcome};
+ghost use Rattle.head.specs.Machine.{between, loaded, afterLoad, loadAnswer, nextBlock, allowed, starting, finished, actedBlock, acted};
+ghost use Rattle.loader.specs.Steps.{plainly, Replies, frameOf};
+use head::Action;
+use head::Answer;
+use head::Config;
+use head::Incoming;
+use head::Phase;
+use head::Progress;
+use head::Received;
+use head::State;
+use head::Stop;
 use protocol::Frame;
 use protocol::Load;
 use protocol::Reply;
-
-// What a whole frame asks for.
-pub enum Action {
-    Name,
-    Udi,
-    Load,
-    Block,
-    // The command is not allowed in this phase, or unknown.
-    WrongCommand,
-    // The command has another body length.
-    WrongLength,
-}
 
 // An answer with neither CDI nor digest.
 pub fn plain(answer: Answer, reply: usize, state: State) -> Received
@@ -53,60 +42,8 @@ pub fn stop(why: Stop, s: State) -> Received
     plain(
         Answer::Stopped(why),
         0,
-        super::states::ended(Phase::Stopped, s.config.ram_len),
+        head::ended(Phase::Stopped, s.config.ram_len),
     )
-}
-
-// A command while waiting, by its number and its body's length.
-fn action_waiting(command: u8, len: u8) -> Action
-    ensures { λ r. ⌜ r ≡ actionWaiting command len ⌝ }
-{
-    match command {
-        0x01 => if len == 1 {
-            Action::Name
-        } else {
-            Action::WrongLength
-        },
-        0x08 => if len == 1 {
-            Action::Udi
-        } else {
-            Action::WrongLength
-        },
-        0x03 => if len == 128 {
-            Action::Load
-        } else {
-            Action::WrongLength
-        },
-        0x05 => Action::WrongCommand,
-        0 | 2 | 4 | 6..=7 | 9..=255 => Action::WrongCommand,
-    }
-}
-
-// A command while loading.
-fn action_loading(command: u8, len: u8) -> Action
-    ensures { λ r. ⌜ r ≡ actionLoading command len ⌝ }
-{
-    match command {
-        0x05 => if len == 128 {
-            Action::Block
-        } else {
-            Action::WrongLength
-        },
-        0x01 | 0x03 | 0x08 => Action::WrongCommand,
-        0 | 2 | 4 | 6..=7 | 9..=255 => Action::WrongCommand,
-    }
-}
-
-// A command.
-fn decide(phase: Phase, command: u8, len: u8) -> Action
-    ensures { λ r. ⌜ r ≡ actionIn phase command len ⌝ }
-{
-    match phase {
-        Phase::Waiting => action_waiting(command, len),
-        Phase::Loading => action_loading(command, len),
-        Phase::Started => Action::WrongCommand,
-        Phase::Stopped => Action::WrongCommand,
-    }
 }
 
 // The frame that was gathered.
@@ -124,10 +61,10 @@ fn frame(i: Incoming) -> Frame
 fn answer(s: State, p: Progress, r: Reply, room: &mut [u8]) -> Received
     requires { ⌜ 129 ≤ length (now room) ⌝ }
     requires { ⌜ r .len ≤ 128 ⌝ }
-    ensures { λ x. ⌜ (x ≡ plainly Answer.Continue (r .len + 1) (between s p)) × (now (room .exit) ≡ putIn (now (room .entry)) (sent r)) ⌝ }
+    ensures { λ x. ⌜ Replies x r (between s p) (now (room .entry)) (now (room .exit)) ⌝ }
 {
     super::memory::put(room, r);
-    let incoming = super::states::idle();
+    let incoming = head::idle();
     let config = s.config;
     let next = State {
         incoming,
@@ -135,6 +72,26 @@ fn answer(s: State, p: Progress, r: Reply, room: &mut [u8]) -> Received
         progress: p,
     };
     plain(Answer::Continue, r.len + 1, next)
+}
+
+// A query for the name.
+fn answer_name(s: State, room: &mut [u8]) -> Received
+    requires { ⌜ 129 ≤ length (now room) ⌝ }
+    ensures { λ r. ⌜ Replies r (nameReply (s .incoming .header)) (between s (s .progress)) (now (room .entry)) (now (room .exit)) ⌝ }
+{
+    let p = s.progress;
+    answer(s, p, protocol::name_reply(s.incoming.header), room)
+}
+
+// A query for the device's identity (UDI).
+fn answer_udi(s: State, room: &mut [u8]) -> Received
+    requires { ⌜ 129 ≤ length (now room) ⌝ }
+    ensures { λ r. ⌜ Replies r (udiReply (s .incoming .header) (s .config .udi)) (between s (s .progress)) (now (room .entry)) (now (room .exit)) ⌝ }
+{
+    let p = s.progress;
+    let c = s.config;
+    let udi = c.udi;
+    answer(s, p, protocol::udi_reply(s.incoming.header, udi), room)
 }
 
 // The progress after a load that is taken.
@@ -154,7 +111,7 @@ fn loaded(l: Load) -> Progress
 // A load: one that is not taken changes nothing.
 fn act_load(s: State, room: &mut [u8]) -> Received
     requires { ⌜ 129 ≤ length (now room) ⌝ }
-    ensures { λ r. ⌜ (r ≡ plainly Answer.Continue (loadAnswer s .len + 1) (between s (afterLoad s))) × (now (room .exit) ≡ putIn (now (room .entry)) (sent (loadAnswer s))) ⌝ }
+    ensures { λ r. ⌜ Replies r (loadAnswer s) (between s (afterLoad s)) (now (room .entry)) (now (room .exit)) ⌝ }
 {
     let i = s.incoming;
     let p = s.progress;
@@ -185,7 +142,7 @@ fn allowed(c: Config, digest: [u8; 32]) -> bool
         return true;
     }
     let required = c.required;
-    super::memory::equal(&digest, &required)
+    head::equal(&digest, &required)
 }
 
 // A start: the device secret is read, and then cleared.
@@ -206,7 +163,7 @@ fn start(s: State, digest: [u8; 32], uds: &mut [u32]) -> Received
             size: p.size,
         },
         reply: 129,
-        state: super::states::ended(Phase::Started, c.ram_len),
+        state: head::ended(Phase::Started, c.ram_len),
         cdi,
         digest,
     }
@@ -230,7 +187,7 @@ fn finish(s: State, room: &mut [u8], ram: &mut [u8], uds: &mut [u32]) -> Receive
     plain(
         Answer::Stopped(Stop::Digest),
         129,
-        super::states::ended(Phase::Stopped, c.ram_len),
+        head::ended(Phase::Stopped, c.ram_len),
     )
 }
 
@@ -259,18 +216,12 @@ pub fn act(s: State, room: &mut [u8], ram: &mut [u8], uds: &mut [u32]) -> Receiv
     requires { ⌜ length (now uds) ≡ 8 ⌝ }
     ensures { λ r. ⌜ outcome r (now (room .exit)) (now (ram .exit)) (now (uds .exit)) ≡ acted s (now (room .entry)) (now (ram .entry)) (now (uds .entry)) ⌝ }
 {
-    let i = s.incoming;
-    let p = s.progress;
-    let phase = p.phase;
-    let body = i.body;
-    let c = s.config;
-    let udi = c.udi;
-    match decide(phase, body[0], super::states::body_len(i.header)) {
-        Action::Name => answer(s, p, protocol::name_reply(i.header), room),
-        Action::Udi => answer(s, p, protocol::udi_reply(i.header, udi), room),
-        Action::Load => act_load(s, room),
-        Action::Block => act_block(s, room, ram, uds),
-        Action::WrongCommand => stop(Stop::Command, s),
-        Action::WrongLength => stop(Stop::BodyLength, s),
+    match head::decide(s) {
+        Action::AnswerName => answer_name(s, room),
+        Action::AnswerUdi => answer_udi(s, room),
+        Action::TakeLoad => act_load(s, room),
+        Action::TakeBlock => act_block(s, room, ram, uds),
+        Action::StopCommand => stop(Stop::Command, s),
+        Action::StopLength => stop(Stop::BodyLength, s),
     }
 }

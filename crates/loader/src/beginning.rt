@@ -2,15 +2,15 @@
 ghost use mathlib.Core.Path.{_≡_};
 ghost use lib.ListN.{length};
 ghost use Rattle.record.specs.Record.{typeNumber, recordOf};
-ghost use Rattle.loader.specs.Begin.{beginningOf, ending, configOf, waitingWith, byType};
-ghost use Rattle.loader.specs.Answers.{reportOf};
-use super::Answer;
-use super::Begun;
-use super::Config;
-use super::Phase;
-use super::Progress;
-use super::State;
-use super::Stop;
+ghost use Rattle.head.specs.Begin.{beginningOf, ending, configOf, waitingWith, byType};
+ghost use Rattle.head.specs.Answers.{reportOf};
+use head::Answer;
+use head::Begun;
+use head::Config;
+use head::Phase;
+use head::Progress;
+use head::State;
+use head::Stop;
 use record::Record;
 use record::ResetType;
 
@@ -28,7 +28,7 @@ pub fn record_bytes(record: &[u8]) -> [u8; 256]
 pub fn end(answer: Answer, ram_len: usize) -> Begun
     ensures { λ r. ⌜ beginningOf r ≡ ending (reportOf answer) «ram_len» ⌝ }
 {
-    let state = super::states::ended(Phase::Stopped, ram_len);
+    let state = head::ended(Phase::Stopped, ram_len);
     Begun { answer, state }
 }
 
@@ -52,7 +52,7 @@ fn config(verify: bool, r: Record, udi: [u8; 8], ram_len: usize) -> Config
 fn wait(config: Config) -> Begun
     ensures { λ r. ⌜ beginningOf r ≡ waitingWith config ⌝ }
 {
-    let incoming = super::states::idle();
+    let incoming = head::idle();
     Begun {
         answer: Answer::Continue,
         state: State {

@@ -3,25 +3,12 @@ ghost use mathlib.Core.Path.{_≡_};
 ghost use mathlib.Core.Bool.{true};
 ghost use Prim.Native.Nat.{_≤_};
 ghost use Rattle.framing.specs.Header.{headerAt};
-ghost use Rattle.loader.specs.State.{incomingOk};
-ghost use Rattle.loader.specs.Machine.{opened, inBody, gathered};
-use super::Incoming;
+ghost use Rattle.head.specs.State.{incomingOk};
+ghost use Rattle.head.specs.Machine.{opened, inBody, gathered};
 use framing::Header;
-
-// What a gathered byte leads to.
-pub enum Step {
-    // A header, a byte of an unfinished body, or the last byte of a frame for another endpoint.
-    More,
-    // The last byte of a frame for the firmware.
-    Whole,
-    // A header with bit 7 or bit 2 set.
-    Bad,
-}
-
-pub struct Gathered {
-    pub step: Step,
-    pub incoming: Incoming,
-}
+use head::Gathered;
+use head::Incoming;
+use head::Step;
 
 // A header.
 fn open(i: Incoming, b: u8) -> Gathered

@@ -1,4 +1,4 @@
-// Bytes read, written and compared in what is lent: the reply room, RAM and the device secret.
+// Bytes read and written in what is lent: the reply room, RAM and the device secret.
 ghost use mathlib.Core.Path.{_≡_};
 ghost use mathlib.Core.List.{[]};
 ghost use Prim.Native.Nat.{_+_, _≤_, _<_};
@@ -8,8 +8,7 @@ ghost use Rattle.rfc7693.specs.Rfc7693.{blake2s};
 ghost use Rattle.endian.specs.Endian.{bytes};
 ghost use Rattle.protocol.specs.Commands.{bytesOf, placeOf, countIn};
 ghost use Rattle.protocol.specs.Replies.{sent, putIn};
-ghost use Rattle.loader.specs.State.{same};
-ghost use Rattle.loader.specs.Machine.{storedIn};
+ghost use Rattle.head.specs.Machine.{storedIn};
 use protocol::Frame;
 use protocol::Reply;
 
@@ -74,11 +73,4 @@ pub fn clear(words: &mut [u32])
         words[i] = 0;
         i += 1;
     }
-}
-
-// Whether two slices hold the same bytes.
-pub fn equal(a: &[u8], b: &[u8]) -> bool
-    ensures { λ r. ⌜ r ≡ same (now (a .entry)) (now (b .entry)) ⌝ }
-{
-    check::same(a, b)
 }

@@ -8,7 +8,7 @@ use lib.Dec.{eqb, ltb}
 use lib.ListN.{length, take, drop, length-take, length-drop, drop-of-length-le}
 use lib.Seq.{take-append-seam, take-all}
 use borrow.Author.Tests.{ne-eqb, lt-ltb, le-ltb, ltb-true, ltb-false}
-use Rattle.loader.specs.Answers.{Outcome}
+use Rattle.head.specs.Answers.{Outcome}
 use Rattle.printer.specs.Lines.{waitingLine, errorLine, textOf}
 use Rattle.printer.specs.Output.{afterBegin, received, callText, outputFrom, output}
 use Rattle.printer.specs.Turns.{turnOf, opening, loop, turns}

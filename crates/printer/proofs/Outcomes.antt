@@ -5,11 +5,11 @@ use mathlib.Core.Path.{_≡_, ap}
 use mathlib.Core.List.{List, [], _++_}
 use lib.ListN.{take, drop}
 use Rattle.endian.specs.Lists.{zeros}
-use Rattle.loader.specs.Begin.{Beginning, beginningOf, beginning}
-use Rattle.loader.specs.Machine.{plain}
-use Rattle.loader.specs.declared.Begun.{Begun}
-use Rattle.loader.specs.Answers.{Outcome, reportOf, outcome}
-use Rattle.loader.specs.declared.Received.{Received}
+use Rattle.head.specs.Begin.{Beginning, beginningOf, beginning}
+use Rattle.head.specs.Machine.{plain}
+use Rattle.head.specs.declared.Begun.{Begun}
+use Rattle.head.specs.Answers.{Outcome, reportOf, outcome}
+use Rattle.head.specs.declared.Received.{Received}
 use Rattle.printer.specs.Lines.{endLine, textOf}
 use Rattle.printer.specs.Output.{wordsIn, afterBegin, replyText, isOver}
 use Rattle.printer.specs.Turns.{turnOf, beginTurn}

@@ -11,9 +11,9 @@ use Rattle.record.specs.Record.{recordAt}
 use Rattle.cdi.specs.Cdi.{cdiString, cdiOf}
 use Rattle.protocol.specs.Commands.{loadIn}
 use Rattle.protocol.specs.Replies.{replyHeader, putIn, nameReply, udiReply, loadReply, digestReply}
-use Rattle.loader.specs.State.{inRange, ended}
-use Rattle.loader.specs.Begin.{beginning}
-use Rattle.loader.specs.Machine.{gathered, loadAnswer, afterLoad, starting, finishedWith, actedBlock, acted, refusal, processed, step}
+use Rattle.head.specs.State.{inRange, ended}
+use Rattle.head.specs.Begin.{beginning}
+use Rattle.head.specs.Machine.{gathered, loadAnswer, afterLoad, starting, finishedWith, actedBlock, acted, refusal, processed, step}
 use Rattle.printer.specs.Lines.{hexOf, decimalOf}
 use Rattle.printer.specs.Output.{afterBegin, received, output}
 use Rattle.printer.specs.Theorems.{Printer}

@@ -7,7 +7,7 @@ use mathlib.Core.List.{List, [], _∷_, _++_}
 use lib.Dec.{ltb}
 use lib.ListN.{length}
 use Rattle.endian.specs.Lists.{padded}
-use Rattle.loader.specs.Answers.{Report, refused, continues, stopped, started}
+use Rattle.head.specs.Answers.{Report, refused, continues, stopped, started}
 use Rattle.printer.specs.declared.lines.Text.{Text}
 
 -- the bytes of a text in ASCII

@@ -7,10 +7,10 @@ use lib.Dec.{eqb, ltb}
 use lib.ListN.{length, take, drop}
 use Rattle.endian.specs.Lists.{each, zeros}
 use Rattle.endian.specs.Endian.{word}
-use Rattle.loader.specs.Answers.{Report, refused, continues, stopped, started, Outcome}
-use Rattle.loader.specs.Begin.{beginning}
-use Rattle.loader.specs.Machine.{plain, step}
-use Rattle.loader.specs.declared.State.{State}
+use Rattle.head.specs.Answers.{Report, refused, continues, stopped, started, Outcome}
+use Rattle.head.specs.Begin.{beginning}
+use Rattle.head.specs.Machine.{plain, step}
+use Rattle.head.specs.declared.State.{State}
 use Rattle.printer.specs.Lines.{replyLine, waitingLine, errorLine, endLine}
 
 -- each word of the UDS has four bytes, lowest first

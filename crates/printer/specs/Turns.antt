@@ -6,7 +6,7 @@ use mathlib.Core.List.{List, [], _∷_, _++_}
 use lib.Dec.{eqb, ltb}
 use lib.ListN.{length, take, drop}
 use Rattle.endian.specs.Lists.{zeros, padded}
-use Rattle.loader.specs.Answers.{Outcome}
+use Rattle.head.specs.Answers.{Outcome}
 use Rattle.printer.specs.Lines.{waitingLine, errorLine, textOf}
 use Rattle.printer.specs.Output.{afterBegin, received, callText, isOver, Output, behind}
 use Rattle.printer.specs.declared.turns.Session.{Session}

@@ -3,7 +3,7 @@ ghost use mathlib.Core.Path.{_≡_};
 ghost use Prim.Native.Nat.{_+_, _≤_};
 ghost use lib.ListN.{take, drop};
 ghost use Rattle.endian.specs.Endian.{word};
-ghost use Rattle.loader.specs.Begin.{beginningOf, beginning};
+ghost use Rattle.head.specs.Begin.{beginningOf, beginning};
 ghost use Rattle.printer.specs.Output.{wordsIn};
 use loader::Begun;
 

@@ -3,7 +3,7 @@ ghost use mathlib.Core.Path.{_≡_};
 ghost use mathlib.Core.List.{List, [], _∷_, _++_};
 ghost use Prim.Native.Nat.{ℕ, _+_, _*_, _≤_, _<_};
 ghost use lib.ListN.{length, take};
-ghost use Rattle.loader.specs.Answers.{reportOf};
+ghost use Rattle.head.specs.Answers.{reportOf};
 ghost use Rattle.printer.specs.Lines.{hexDigit, hexOf, decimalOf, replyLine, startLine, endLine, textOf};
 ghost use Rattle.printer.specs.Steps.{Adds};
 use loader::Answer;

@@ -1,7 +1,7 @@
 // A session from byte to byte, and what is printed of it.
 ghost use mathlib.Core.Path.{_≡_};
 ghost use Prim.Native.Nat.{_≤_};
-ghost use Rattle.loader.specs.Answers.{reportOf};
+ghost use Rattle.head.specs.Answers.{reportOf};
 ghost use Rattle.printer.specs.Lines.{textOf};
 ghost use Rattle.printer.specs.Output.{replyText, isOver};
 ghost use Rattle.printer.specs.Turns.{beginTurn, opening, turned, ramAfter, waited};

@@ -19,23 +19,23 @@ use Rattle.protocol.specs.declared.Reply.{Reply}
 use Rattle.protocol.proofs.Proved.{protocol}
 use Rattle.record.specs.Record.{typeField, requiredField, fieldOf, numberIn, recordAt}
 use Rattle.endian.specs.Lists.{zeros, All}
-use Rattle.loader.specs.State.{same, bodyLen, idle, ended}
-use Rattle.loader.specs.Answers.{continues, stopped, started, Outcome}
-use Rattle.loader.specs.Begin.{waiting, configOf}
-use Rattle.loader.specs.Machine.{actionIn, frameIn, storedIn, replying, loadAnswer, afterLoad, starting, allowed, finishedWith, actedBlock, performed, acted}
-use Rattle.loader.proofs.Bytes.{same-refl, same-eq}
-use Rattle.loader.proofs.Ranges.{never, by-test, length-some}
+use Rattle.head.specs.State.{same, bodyLen, idle, ended}
+use Rattle.head.specs.Answers.{continues, stopped, started, Outcome}
+use Rattle.head.specs.Begin.{waiting, configOf}
+use Rattle.head.specs.Machine.{actionIn, frameIn, storedIn, replying, loadAnswer, afterLoad, starting, allowed, finishedWith, actedBlock, performed, acted}
+use Rattle.head.proofs.Same.{same-refl, same-eq}
+use Rattle.head.proofs.Ranges.{never, by-test, length-some}
 use Rattle.session.specs.Reading.{Good, forFirmware, bodyOf, Query, Load, Opens, Block, carried, sizeOf, programOf, digestOf, Allowed, chained, measuredId}
 use Rattle.session.proofs.Frames.{All-append}
 use Rattle.session.proofs.Gathering.{holding, length-snoc}
 use Rattle.session.proofs.Shapes.{AskedWaiting, asks-name, asks-udi, asks-load, wrong-command, wrong-length, asked-waiting, AskedLoading, asks-block, no-command, no-length, asked-loading, Shape, one-shape, next-is, no-load, carried-snoc, carries-127, carried-length, load-size, All-last}
-use Rattle.loader.specs.declared.Phase.the-variants as phase
-use Rattle.loader.specs.declared.Incoming.{Incoming}
-use Rattle.loader.specs.declared.Config.{Config}
-use Rattle.loader.specs.declared.Progress.{Progress}
-use Rattle.loader.specs.declared.State.{State}
-use Rattle.loader.specs.declared.acting.Action.{Action}
-use Rattle.loader.specs.declared.acting.Action.the-variants as action
+use Rattle.head.specs.declared.Phase.the-variants as phase
+use Rattle.head.specs.declared.Incoming.{Incoming}
+use Rattle.head.specs.declared.Config.{Config}
+use Rattle.head.specs.declared.Progress.{Progress}
+use Rattle.head.specs.declared.State.{State}
+use Rattle.head.specs.declared.Action.{Action}
+use Rattle.head.specs.declared.Action.the-variants as action
 
 pub empty-rest : {A : Type 0} (l : List A) → length l ≡ 0 → l ≡ []
 empty-rest [] e = refl
@@ -141,7 +141,7 @@ module _ (rec udi : List ℕ) (m : ℕ) where
     opened f a o = is-waiting (All-append (Opens m) os (f ∷ []) a (o, tt))
 
     acts-load : (f : List ℕ) → All (Opens m) os → Load f → frameIn (at (holding f) waiting) ≡ f
-        → Acts room uds os f (performed action.Load (at (holding f) waiting) room ram uds)
+        → Acts room uds os f (performed action.TakeLoad (at (holding f) waiting) room ram uds)
     unfolding afterLoad loadAnswer
     acts-load f a l e =
         rw e (by-test (λ (p : Progress). Acts room uds os f (replying (loadReply (holding f .header) (goodLoad m (loadIn f))) (at idle p) room ram uds)) (goodLoad m (loadIn f)) _ _

@@ -8,19 +8,20 @@ use native.Mathlib.Omega.{arith}
 use lib.Dec.{eqb, leb}
 use lib.ListN.{length}
 use borrow.Author.Tests.{eqb-true, leb-true}
+use Rattle.endian.proofs.Cases.{impossible}
 use Rattle.record.specs.Record.{typeField, numberIn, recordAt}
-use Rattle.loader.specs.State.{ramOk, inRange, live, idle, ended}
-use Rattle.loader.specs.Answers.{Report, refused, continues, stopped, started}
-use Rattle.loader.specs.Begin.{waiting, beginning}
-use Rattle.loader.specs.Machine.{refusal}
-use Rattle.loader.proofs.Ranges.{never}
-use Rattle.loader.proofs.Proved.{loader}
+use Rattle.head.specs.State.{ramOk, inRange, live, idle, ended}
+use Rattle.head.specs.Answers.{Report, refused, continues, stopped, started}
+use Rattle.head.specs.Begin.{waiting, beginning}
+use Rattle.head.specs.Machine.{refusal}
+use Rattle.head.proofs.Ranges.{never}
+use Rattle.head.proofs.Proved.{head-theorems}
 use Rattle.session.specs.Session.{Call, Entry, entryOf, log, isAccepted, isEnd, hasEnded, refusalIn}
 use Rattle.session.proofs.Acting.{at}
 use Rattle.session.proofs.Walk.{numberOf}
-use Rattle.loader.specs.declared.Phase.the-variants as phase
-use Rattle.loader.specs.declared.Config.{Config}
-use Rattle.loader.specs.declared.State.{State}
+use Rattle.head.specs.declared.Phase.the-variants as phase
+use Rattle.head.specs.declared.Config.{Config}
+use Rattle.head.specs.declared.State.{State}
 
 -- ---- begin
 
@@ -67,9 +68,9 @@ module _ (m : ℕ) where
   still : (s : State) (over : Bool) (c : Call) → Runs s over → entryOf s c .out .report ≡ continues → inRange (entryOf s c .out .state) ≡ true
       → entryOf s c .out .state .config ≡ s .config → live (entryOf s c .out .state .progress .phase) ≡ true → Runs (entryOf s c .out .state) over
   still s true c v e r k g =
-      let q = loader .call s (c .byte) (c .room) (c .ram) (c .uds) .refuses 2 .1 (sym (number-is s true c v), λ z. omega arith) in
+      let q = head-theorems .call s (c .byte) (c .room) (c .ram) (c .uds) .refuses 2 .1 (sym (number-is s true c v), λ z. omega arith) in
       let d : refused 2 ≡ continues = sym q ∙ e in
-      absurd (let w : _≡_ {A = ℕ} 0 1 = cc in omega arith)
+      impossible cc
   still s false c v e r k g = record { range = r; ram = ap (λ (x : Config). x .«ram_len») k ∙ v .ram; goes = g }
 
   pub next-runs : (s : State) (over : Bool) (c : Call) → Runs s over → Runs (entryOf s c .out .state) (isEnd (entryOf s c .out .report) || over)
@@ -77,16 +78,16 @@ module _ (m : ℕ) where
     where
       go : (x : Report) → entryOf s c .out .report ≡ x → Runs (entryOf s c .out .state) (isEnd (entryOf s c .out .report) || over)
       go (refused k) e =
-          let l = loader .call s (c .byte) (c .room) (c .ram) (c .uds) in
+          let l = head-theorems .call s (c .byte) (c .room) (c .ram) (c .uds) in
           rw (l .kept k e) v
       go continues e =
-          let l = loader .call s (c .byte) (c .room) (c .ram) (c .uds) in
+          let l = head-theorems .call s (c .byte) (c .room) (c .ram) (c .uds) in
           rw e (still s over c v e (l .stays (v .range)) (l .goes-on e .0) (l .lives e))
       go (stopped k) e =
-          let l = loader .call s (c .byte) (c .room) (c .ram) (c .uds) in
+          let l = head-theorems .call s (c .byte) (c .room) (c .ram) (c .uds) in
           rw e (ended-runs _ over (l .stays (v .range)) (inr (l .stops k e .0 ∙ ap (ended phase.Stopped) (v .ram))))
       go (started a n) e =
-          let l = loader .call s (c .byte) (c .room) (c .ram) (c .uds) in
+          let l = head-theorems .call s (c .byte) (c .room) (c .ram) (c .uds) in
           rw e (ended-runs _ over (l .stays (v .range)) (inl (l .starts a n e .2 ∙ ap (ended phase.Started) (v .ram))))
 
   or-moves : (x y z : Bool) → x || (y || z) ≡ (y || x) || z
@@ -97,12 +98,12 @@ module _ (m : ℕ) where
 
   pub table-from : (cs : List Call) (s : State) (over : Bool) → Runs s over → (before after : List Entry) (e : Entry) → log s cs ≡ before ++ e ∷ after
       → (k : ℕ) → (e .out .report ≡ refused k) ↔ ((k ≡ refusalIn (hasEnded before || over) m (e .call)) × (k ≡ 0 → ⊥))
-  table-from [] s over v [] after e q k = absurd (let w : _≡_ {A = ℕ} 0 1 = cc in omega arith)
-  table-from [] s over v (x ∷ before) after e q k = absurd (let w : _≡_ {A = ℕ} 0 1 = cc in omega arith)
+  table-from [] s over v [] after e q k = impossible cc
+  table-from [] s over v (x ∷ before) after e q k = impossible cc
   table-from (c ∷ cs) s over v [] after e q k =
       subst (λ (x : Entry). (x .out .report ≡ refused k) ↔ ((k ≡ refusalIn over m (x .call)) × (k ≡ 0 → ⊥))) (head-eq-of-cons-eq q)
       (subst (λ (j : ℕ). (entryOf s c .out .report ≡ refused k) ↔ ((k ≡ j) × (k ≡ 0 → ⊥))) (number-is s over c v)
-      (loader .call s (c .byte) (c .room) (c .ram) (c .uds) .refuses k))
+      (head-theorems .call s (c .byte) (c .room) (c .ram) (c .uds) .refuses k))
   table-from (c ∷ cs) s over v (x ∷ before) after e q k =
       let p : entryOf s c ≡ x = head-eq-of-cons-eq q in
       let t = table-from cs (entryOf s c .out .state) (isEnd (entryOf s c .out .report) || over) (next-runs s over c v) before after e (tail-eq-of-cons-eq q) k in

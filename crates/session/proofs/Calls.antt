@@ -5,11 +5,12 @@ use mathlib.Core.Bool.{true, false}
 use mathlib.Core.List.{List, [], _∷_, _++_, append-assoc, append-nil, head-eq-of-cons-eq, tail-eq-of-cons-eq}
 use native.Mathlib.Omega.{arith}
 use lib.ListN.{length, getD, length-append}
+use Rattle.endian.proofs.Cases.{impossible}
 use Rattle.framing.specs.Header.{good, stop, headerAt}
 use Rattle.protocol.specs.Commands.{blocksFor}
-use Rattle.loader.specs.State.{ended}
-use Rattle.loader.specs.Answers.{continues, stopped, Outcome}
-use Rattle.loader.specs.Machine.{gathered, withIncoming, afterByte, processed}
+use Rattle.head.specs.State.{ended}
+use Rattle.head.specs.Answers.{continues, stopped, Outcome}
+use Rattle.head.specs.Machine.{gathered, withIncoming, afterByte, processed}
 use Rattle.endian.specs.Lists.{All}
 use Rattle.session.specs.Reading.{Good, joined, forFirmware, own, sizeOf, Starting}
 use Rattle.session.specs.Session.{Call}
@@ -17,16 +18,16 @@ use Rattle.session.proofs.Frames.{All-append, own-append, joined-snoc, 
 use Rattle.session.proofs.Gathering.{holding, Partial, Gathers, at-bad, at-part, at-passed, at-whole, gathers}
 use Rattle.session.proofs.Shapes.{Shape}
 use Rattle.session.proofs.Acting.{empty-rest, grows, at, Doing, Complete, not-yet, Leaves, Replies, Acts, goes, starts, stops, acts}
-use Rattle.loader.specs.declared.Phase.the-variants as phase
-use Rattle.loader.specs.declared.Progress.{Progress}
-use Rattle.loader.specs.declared.State.{State}
-use Rattle.loader.specs.declared.gathering.Gathered.{Gathered}
+use Rattle.head.specs.declared.Phase.the-variants as phase
+use Rattle.head.specs.declared.Progress.{Progress}
+use Rattle.head.specs.declared.State.{State}
+use Rattle.head.specs.declared.Gathered.{Gathered}
 
 -- what is left over of a part, in the bytes of whole good frames, is nothing
 none-partial : (p : List ℕ) (hs : List (List ℕ)) → Partial p → All Good hs → p ≡ joined hs → hs ≡ []
 none-partial p [] v a e = refl
 none-partial p ([] ∷ hs) v a e = absurd (let l : 0 ≡ 1 + a .0 .n = a .0 .whole in omega arith)
-none-partial [] ((k ∷ f) ∷ hs) v a e = absurd (let w : _≡_ {A = ℕ} 0 1 = cc in omega arith)
+none-partial [] ((k ∷ f) ∷ hs) v a e = impossible cc
 none-partial (h ∷ p) ((k ∷ f) ∷ hs) v a e =
     let eh : h ≡ k = head-eq-of-cons-eq e in
     let ep : length p ≡ length (f ++ joined hs) = ap length (tail-eq-of-cons-eq e) in
@@ -38,14 +39,13 @@ none-partial (h ∷ p) ((k ∷ f) ∷ hs) v a e =
 
 -- a bad header begins no frame
 no-bad : (b : ℕ) (rest : List ℕ) (hs : List (List ℕ)) → headerAt b ≡ stop 22 → All Good hs → b ∷ rest ≡ joined hs → ⊥
-no-bad b rest [] x a e = let w : _≡_ {A = ℕ} 0 1 = cc in omega arith
+no-bad b rest [] x a e = impossible cc
 no-bad b rest ([] ∷ hs) x a e = let l : 0 ≡ 1 + a .0 .n = a .0 .whole in omega arith
 no-bad b rest ((k ∷ f) ∷ hs) x a e =
     let eh : b ≡ k = head-eq-of-cons-eq e in
     let g : Good (k ∷ f) = a .0 in
     let q : good (g .id) (g .ep) (g .n) ≡ stop 22 = sym (g .header) ∙ ap headerAt (sym eh) ∙ x in
-    let w : _≡_ {A = ℕ} 0 1 = cc in
-    omega arith
+    impossible cc
 
 -- where the last frame is for the firmware, none of those at the end can be left out
 none-after : (xs ys before : List (List ℕ)) (l : List ℕ) → before ++ l ∷ [] ≡ xs ++ ys → forFirmware l ≡ true → own ys ≡ [] → ys ≡ []

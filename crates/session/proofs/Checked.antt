@@ -6,25 +6,26 @@ use mathlib.Core.List.{List, [], _∷_, _++_}
 use native.Mathlib.Omega.{arith}
 use lib.ListN.{length}
 use borrow.Author.Tests.{eq-eqb, le-ltb}
+use Rattle.endian.proofs.Cases.{impossible}
 use Rattle.framing.specs.Header.{good, stop, headerAt}
 use Rattle.rfc7693.proofs.Proved.{hashing}
 use Rattle.cdi.proofs.Proved.{cdi}
-use Rattle.loader.specs.State.{inRange, live, idle}
-use Rattle.loader.specs.Answers.{continues, stopped, Outcome}
-use Rattle.loader.specs.Begin.{waiting}
-use Rattle.loader.specs.Machine.{refusal, gathered, plain, withIncoming, processed, step}
-use Rattle.loader.proofs.Steps.{admitted-as}
-use Rattle.loader.proofs.Ranges.{never}
-use Rattle.loader.proofs.Proved.{loader}
+use Rattle.head.specs.State.{inRange, live, idle}
+use Rattle.head.specs.Answers.{continues, stopped, Outcome}
+use Rattle.head.specs.Begin.{waiting}
+use Rattle.head.specs.Machine.{refusal, gathered, plain, withIncoming, processed, step}
+use Rattle.head.proofs.Admitted.{admitted-as}
+use Rattle.head.proofs.Ranges.{never}
+use Rattle.head.proofs.Proved.{head-theorems}
 use Rattle.session.specs.Checklist.{Head, Begun, PassedOver, Checklist}
 use Rattle.session.proofs.Gathering.{holding, Gathers, at-bad, at-part, at-passed, at-whole, gathers, length-snoc}
 use Rattle.session.proofs.Frames.{same-size}
 use Rattle.session.proofs.Acting.{empty-rest, at}
 use Rattle.session.proofs.Begins.{Fresh, fresh}
-use Rattle.loader.specs.declared.Incoming.{Incoming}
-use Rattle.loader.specs.declared.State.{State}
-use Rattle.loader.specs.declared.gathering.Gathered.{Gathered}
-use Rattle.loader.specs.declared.gathering.Step.the-variants.{More}
+use Rattle.head.specs.declared.Incoming.{Incoming}
+use Rattle.head.specs.declared.State.{State}
+use Rattle.head.specs.declared.Gathered.{Gathered}
+use Rattle.head.specs.declared.Step.the-variants.{More}
 
 -- a call that is not refused
 unrefused : (s : State) (room ram uds : ℕ) → inRange s ≡ true → live (s .progress .phase) ≡ true → 129 ≤ room → ram ≡ s .config .«ram_len» → uds ≡ 8
@@ -57,7 +58,7 @@ module _ (rec udi room ram uds : List ℕ) (fits : 129 ≤ length room) (eight :
       → (inRange (holds j .state) ≡ true → PassedOver bs (holds j) h) → PassedOver (b ∷ bs) (holds i) h
   passes i j b bs h r e f =
       let q = quiet (holds i .state) b room ram uds j (unrefused (holds i .state) (length room) (length ram) (length uds) r refl fits refl eight) e in
-      let k : inRange (holds j .state) ≡ true = subst (λ (o : Outcome). inRange (o .state) ≡ true) q (loader .call (holds i .state) b room ram uds .stays r) in
+      let k : inRange (holds j .state) ≡ true = subst (λ (o : Outcome). inRange (o .state) ≡ true) q (head-theorems .call (holds i .state) b room ram uds .stays r) in
       subst (λ (o : Outcome). (o .report ≡ continues) × (o .reply ≡ 0) × PassedOver bs (record { state = o .state; room = o .room; ram = o .ram; uds = o .uds }) h)
       (sym q) (refl, refl, f k)
 
@@ -74,7 +75,7 @@ module _ (rec udi room ram uds : List ℕ) (fits : 129 ≤ length room) (eight :
       go : (g : Gathered) → gathered (holding (0x1b ∷ p)) b ≡ g → Gathers (0x1b ∷ p) b g
           → (length (p ++ b ∷ []) < 128 → inRange (holds (holding (0x1b ∷ (p ++ b ∷ []))) .state) ≡ true → PassedOver bs (holds (holding (0x1b ∷ (p ++ b ∷ [])))) (holds idle))
           → PassedOver (b ∷ bs) (holds (holding (0x1b ∷ p))) (holds idle)
-      go g e (at-bad q x y) f = absurd (let w : _≡_ {A = ℕ} 0 1 = cc in omega arith)
+      go g e (at-bad q x y) f = impossible cc
       go g e (at-part v x) f =
           let k = n-is (v .id) (v .ep) (v .n) (v .header) in
           let s = v .short in
@@ -99,7 +100,7 @@ module _ (h : Head) (b : Begun h) where
   state-is = b .state ∙ begins .state
 
   ranges : inRange (at (b .rec) (b .udi) (length (h .ram)) idle waiting) ≡ true
-  ranges = subst (λ (s : State). inRange s ≡ true) (begins .state) (loader .begun (b .rec) (b .udi) (length (h .ram)))
+  ranges = subst (λ (s : State). inRange s ≡ true) (begins .state) (head-theorems .begun (b .rec) (b .udi) (length (h .ram)))
 
   passed-over : (bs : List ℕ) → length bs ≡ 128 → PassedOver (0x1b ∷ bs) h h
   passed-over bs l =

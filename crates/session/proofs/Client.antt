@@ -10,6 +10,7 @@ use lib.Dec.{eqb}
 use lib.ListN.{length, getD, take, replicate, length-append, length-drop}
 use lib.Seq.{take-at}
 use borrow.Author.Tests.{eqb-true, eqb-false, eq-eqb, ne-eqb}
+use Rattle.endian.proofs.Cases.{impossible}
 use Rattle.framing.specs.Header.{good, headerAt}
 use Rattle.rfc7693.specs.Rfc7693.{blake2s}
 use Rattle.endian.specs.Endian.{bytes}
@@ -20,10 +21,10 @@ use Rattle.protocol.specs.Theorems.{Framed, loadWith}
 use Rattle.protocol.proofs.Proved.{protocol}
 use Rattle.protocol.specs.declared.Load.{Load}
 use Rattle.protocol.specs.declared.Reply.{Reply}
-use Rattle.loader.specs.Answers.{continues, started, Outcome}
-use Rattle.loader.proofs.Ranges.{never}
-use Rattle.loader.proofs.Steps.{admitted}
-use Rattle.loader.proofs.Proved.{loader}
+use Rattle.head.specs.Answers.{continues, started, Outcome}
+use Rattle.head.proofs.Ranges.{never}
+use Rattle.head.proofs.Admitted.{admitted}
+use Rattle.head.proofs.Proved.{head-theorems}
 use Rattle.client.specs.Frames.{refusal, commandHeader}
 use Rattle.client.specs.Replies.{takingAs, taking}
 use Rattle.client.proofs.Proved.{client}
@@ -41,7 +42,7 @@ use Rattle.session.proofs.Calls.{Live, not-live, Says, within, passed, 
 use Rattle.session.proofs.Walk.{numberOf, call-is}
 use Rattle.session.proofs.ClientFrames as made
 use Rattle.session.proofs.Positions.{total, Place, place}
-use Rattle.loader.specs.declared.State.{State}
+use Rattle.head.specs.declared.State.{State}
 
 -- ---- a list of which no call is refused
 
@@ -66,7 +67,7 @@ number-zero s c t = go (eqb (numberOf s c) 0) refl
     go : (b : Bool) → eqb (numberOf s c) 0 ≡ b → numberOf s c ≡ 0
     go true e = eqb-true (numberOf s c) 0 e
     go false e =
-        let r = loader .call s (c .byte) (c .room) (c .ram) (c .uds) .refuses (numberOf s c) .1 (refl, eqb-false (numberOf s c) 0 e) in
+        let r = head-theorems .call s (c .byte) (c .room) (c .ram) (c .uds) .refuses (numberOf s c) .1 (refl, eqb-false (numberOf s c) 0 e) in
         never (sym t ∙ ap isAccepted r)
 
 one-more : (r : List ℕ) (e : Entry) (es : List Entry) → isAccepted (e .out .report) ≡ true → OneRam r (accepted (e ∷ es)) → (e .call .ram ≡ r) × OneRam (e .out .ram) (accepted es)
@@ -78,7 +79,7 @@ one-more r e es = go (isAccepted (e .out .report))
 
 no-calls : (es : List Entry) → receivedBytes es ≡ [] → es ≡ []
 no-calls [] e = refl
-no-calls (x ∷ es) e = absurd (let w : _≡_ {A = ℕ} 0 1 = cc in omega arith)
+no-calls (x ∷ es) e = impossible cc
 
 -- the string of a start by the load's flag and user secret
 one-string : (uds id d : List ℕ) (chain : Bool) (n : ℕ) (u : Bool) (uss : List ℕ) (l : Load) → l ≡ loadWith n (cond u 1 0) (cond u uss (replicate 32 0))

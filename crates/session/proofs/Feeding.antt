@@ -8,15 +8,15 @@ use lib.Dec.{eqb}
 use lib.ListN.{length}
 use borrow.Author.Tests.{eq-eqb, eqb-true}
 use Rattle.endian.specs.Lists.{zeros, Words}
-use Rattle.loader.specs.Answers.{Outcome}
-use Rattle.loader.specs.Machine.{processed, step}
-use Rattle.loader.proofs.Ranges.{never, by-test}
+use Rattle.head.specs.Answers.{Outcome}
+use Rattle.head.specs.Machine.{processed, step}
+use Rattle.head.proofs.Ranges.{never, by-test}
 use Rattle.session.specs.Reading.{Starting}
 use Rattle.session.specs.Session.{Call, Entry, entryOf, log, isAccepted, accepted, receivedBytes, OneRam, isEnd}
 use Rattle.session.proofs.Calls.{Live, After, goes-on, has-started, has-stopped, after}
 use Rattle.session.proofs.Walk.{numberOf, call-taken, call-is}
 use Rattle.session.proofs.Begins.{Runs, number-is, next-runs}
-use Rattle.loader.specs.declared.State.{State}
+use Rattle.head.specs.declared.State.{State}
 
 module _ (uds : List ℕ) (typed : Words uds) where
   abbrev pub sending : ℕ → List ℕ → Call

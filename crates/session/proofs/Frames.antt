@@ -5,6 +5,7 @@ use mathlib.Core.Bool.{Bool, true, false, cond}
 use mathlib.Core.List.{List, [], _∷_, _++_, append-assoc, append-nil, head-eq-of-cons-eq, tail-eq-of-cons-eq}
 use native.Mathlib.Omega.{arith}
 use lib.ListN.{length}
+use Rattle.endian.proofs.Cases.{impossible}
 use Rattle.framing.specs.Header.{good}
 use Rattle.endian.specs.Lists.{All}
 use Rattle.session.specs.Reading.{Good, joined, forFirmware, own}
@@ -73,7 +74,7 @@ pub record Further (fs gs : List (List ℕ)) (p : List ℕ) : Type 0 where
 pub reads-on : (fs gs : List (List ℕ)) (p : List ℕ) → All Good fs → All Good gs → joined fs ++ p ≡ joined gs → Further fs gs p
 reads-on [] gs p a b e = record { rest = gs; frames = refl; bytes = e; all-good = b }
 reads-on ([] ∷ fs) gs p a b e = absurd (good-some (a .0))
-reads-on ((h ∷ f) ∷ fs) [] p a b e = absurd (let w : _≡_ {A = ℕ} 0 1 = cc in omega arith)
+reads-on ((h ∷ f) ∷ fs) [] p a b e = impossible cc
 reads-on ((h ∷ f) ∷ fs) ([] ∷ gs) p a b e = absurd (good-some (b .0))
 reads-on ((h ∷ f) ∷ fs) ((k ∷ g) ∷ gs) p a b e =
     let eh : h ≡ k = head-eq-of-cons-eq e in

@@ -7,16 +7,17 @@ use native.Mathlib.Omega.{arith}
 use lib.Dec.{eqb, ltb}
 use lib.ListN.{length, set, drop, length-append}
 use borrow.Author.Tests.{ne-eqb, ltb-true, ltb-false}
+use Rattle.endian.proofs.Cases.{impossible}
 use Rattle.framing.specs.Header.{Reading, good, stop, headerAt, inField, endpoint}
 use Rattle.framing.proofs.Headers.{by-bits, fields-of}
 use Rattle.endian.specs.Lists.{zeros}
-use Rattle.loader.specs.State.{bodyLen, idle}
-use Rattle.loader.specs.Machine.{withByte, gathered}
-use Rattle.loader.proofs.Ranges.{body-small, length-some}
+use Rattle.head.specs.State.{bodyLen, idle}
+use Rattle.head.specs.Machine.{withByte, gathered}
+use Rattle.head.proofs.Ranges.{body-small, length-some}
 use Rattle.session.specs.Reading.{Good, forFirmware}
-use Rattle.loader.specs.declared.Incoming.{Incoming}
-use Rattle.loader.specs.declared.gathering.Step.the-variants.{More, Whole, Bad}
-use Rattle.loader.specs.declared.gathering.Gathered.{Gathered}
+use Rattle.head.specs.declared.Incoming.{Incoming}
+use Rattle.head.specs.declared.Step.the-variants.{More, Whole, Bad}
+use Rattle.head.specs.declared.Gathered.{Gathered}
 
 -- the bytes p of a frame with header h, kept if it is for the firmware
 abbrev pub bodyHeld : ℕ → List ℕ → List ℕ
@@ -56,7 +57,7 @@ set-next (x ∷ p) (y ∷ z) b l = ap (λ (r : List ℕ). x ∷ r) (set-next p z
 
 pub bad-is : (h : ℕ) (k : ℕ) → headerAt h ≡ stop k → headerAt h ≡ stop 22
 bad-is h k =
-    by-bits h (λ (r : Reading). r ≡ stop k → r ≡ stop 22) (λ p q e. absurd (let w : _≡_ {A = ℕ} 0 1 = cc in omega arith)) (λ g e. refl)
+    by-bits h (λ (r : Reading). r ≡ stop k → r ≡ stop 22) (λ p q e. impossible cc) (λ g e. refl)
 
 opening : (b : ℕ) (r : Reading) → headerAt b ≡ r → Gathers [] b (gathered idle b)
 unfolding gathered

@@ -8,6 +8,7 @@ use lib.ListN.{length, getD, length-append, List·getD-append}
 use lib.Dec.{eqb}
 use lib.Seq.{getD-at, getD-append-seam}
 use borrow.Author.Tests.{eqb-true, eqb-false}
+use Rattle.endian.proofs.Cases.{impossible}
 use Rattle.client.specs.Frames.{commandHeader}
 use Rattle.client.specs.declared.Secret.{Secret}
 use Rattle.endian.specs.Lists.{All}
@@ -78,7 +79,7 @@ module _ (prog : List ℕ) (id : ℕ) (secret : Secret) (made : Made prog id sec
           (sym (append-assoc (joined fs) (h ∷ p) rest) ∙ ap (λ (x : List ℕ). x ++ rest) (sym w) ∙ e)
 
       go : (r : List (List ℕ)) → upTo k ≡ fs ++ r → h ∷ (p ++ rest) ≡ joined r → Place k bs fs h p
-      go [] f b = absurd (let z : _≡_ {A = ℕ} 0 1 = cc in omega arith)
+      go [] f b = impossible cc
       go (g ∷ gs) f b =
           let c : k ≡ length fs + suc (length gs) = sym (count k) ∙ ap length f ∙ length-append fs (g ∷ gs) in
           let l : length fs < k = omega arith in

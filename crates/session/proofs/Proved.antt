@@ -7,6 +7,7 @@ use mathlib.Core.Option.{none, some}
 use mathlib.Core.List.{List, [], _∷_, _++_, append-nil, tail-eq-of-cons-eq, head-eq-of-cons-eq, List·Memᴰ, List·Memᴰ·head, List·Memᴰ·tail, List·Memᴰ·not-nil, List·Memᴰ·cases-cons}
 use native.Mathlib.Omega.{arith}
 use lib.ListN.{length, getD, replicate, length-append}
+use Rattle.endian.proofs.Cases.{impossible}
 use Rattle.rfc7693.specs.Rfc7693.{blake2s}
 use Rattle.endian.specs.Endian.{bytes}
 use Rattle.cdi.specs.Cdi.{cdiString}
@@ -19,11 +20,11 @@ use Rattle.record.specs.Record.{typeField, numberIn}
 use Rattle.client.specs.Frames.{secretOf}
 use Rattle.client.proofs.Proved as making
 use Rattle.client.specs.declared.Secret.{Secret}
-use Rattle.loader.specs.State.{live}
-use Rattle.loader.specs.Answers.{refused}
-use Rattle.loader.specs.Begin.{waiting, beginning}
+use Rattle.head.specs.State.{live}
+use Rattle.head.specs.Answers.{refused}
+use Rattle.head.specs.Begin.{waiting, beginning}
 use Rattle.endian.proofs.Words.{bytes-length}
-use Rattle.loader.proofs.Proved.{loader}
+use Rattle.head.proofs.Proved.{head-theorems}
 use Rattle.endian.specs.Lists.{All, Words}
 use Rattle.session.specs.Reading.{Good, joined, own, digestOf, Allowed, chained, measuredId, Starting}
 use Rattle.session.specs.Session.{Entry, Among, isAccepted, receivedBytes, Session, allOf, acceptedOf, hasEnded, refusalIn}
@@ -38,7 +39,7 @@ use Rattle.session.proofs.Begins.{Fresh, fresh, Runs, table-from}
 use Rattle.session.proofs.ClientFrames as made
 use Rattle.session.proofs.Feeding.{feed, one-ram, same-uds, Fed, fed}
 use Rattle.session.proofs.Strings.{same-words, digest-length, id-length, uss-length, same-secret}
-use Rattle.loader.specs.declared.State.{State}
+use Rattle.head.specs.declared.State.{State}
 
 -- ---- one of a list of calls
 
@@ -68,7 +69,7 @@ last-same (x ∷ xs) (y ∷ ys) a b e = last-same xs ys a b (tail-eq-of-cons-eq 
 no-frames : (hs : List (List ℕ)) → All Good hs → [] ≡ joined hs → hs ≡ []
 no-frames [] a e = refl
 no-frames ([] ∷ hs) a e = absurd (let l : 0 ≡ 1 + a .0 .n = a .0 .whole in omega arith)
-no-frames ((h ∷ f) ∷ hs) a e = absurd (let w : _≡_ {A = ℕ} 0 1 = cc in omega arith)
+no-frames ((h ∷ f) ∷ hs) a e = impossible cc
 
 module _ (rec : List ℕ) (m : ℕ) (heard : List ℕ) (w w′ : Starting rec m heard) where
   same-frames : w .before ++ w .last ∷ [] ≡ w′ .before ++ w′ .last ∷ []
@@ -99,7 +100,7 @@ first-live rec udi m r f =
 first-runs : (rec udi : List ℕ) (m : ℕ) → Fresh rec udi m → Runs m (beginning rec udi m .state) false
 first-runs rec udi m f =
     record {
-      range = loader .begun rec udi m;
+      range = head-theorems .begun rec udi m;
       ram = ap (λ (s : State). s .config .«ram_len») (f .state);
       goes = ap (λ (s : State). live (s .progress .phase)) (f .state);
     }

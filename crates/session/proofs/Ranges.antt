@@ -6,12 +6,13 @@ use mathlib.Core.List.{List, [], _∷_, _++_, head-eq-of-cons-eq, tail-eq-of-con
 use native.Mathlib.Omega.{arith}
 use lib.Dec.{eqb, ltb}
 use lib.ListN.{length}
-use Rattle.loader.specs.State.{inRange, live}
-use Rattle.loader.specs.Answers.{refused}
-use Rattle.loader.specs.Begin.{beginning}
-use Rattle.loader.specs.Machine.{refusal}
-use Rattle.loader.proofs.Proved.{loader}
-use Rattle.loader.specs.declared.State.{State}
+use Rattle.endian.proofs.Cases.{impossible}
+use Rattle.head.specs.State.{inRange, live}
+use Rattle.head.specs.Answers.{refused}
+use Rattle.head.specs.Begin.{beginning}
+use Rattle.head.specs.Machine.{refusal}
+use Rattle.head.proofs.Proved.{head-theorems}
+use Rattle.head.specs.declared.State.{State}
 use Rattle.session.specs.Session.{Call, Entry, entryOf, log}
 use Rattle.session.specs.Ranges.{Ranges}
 
@@ -32,19 +33,19 @@ Stays e = (inRange (e .out .state) ≡ true) × (e .out .report ≡ refused 1 �
 
 call-stays : (s : State) (c : Call) → inRange s ≡ true → Stays (entryOf s c)
 call-stays s c r =
-    let l = loader .call s (c .byte) (c .room) (c .ram) (c .uds) in
+    let l = head-theorems .call s (c .byte) (c .room) (c .ram) (c .uds) in
     (l .stays r, λ q. not-one s (length (c .room)) (length (c .ram)) (length (c .uds)) r (sym (l .refuses 1 .0 q .0)))
 
 -- a call, wherever it stands in the list
 stays-at : (cs : List Call) (s : State) → inRange s ≡ true → (before after : List Entry) (e : Entry) → log s cs ≡ before ++ e ∷ after → Stays e
-stays-at [] s r [] after e q = absurd (let w : _≡_ {A = ℕ} 0 1 = cc in omega arith)
-stays-at [] s r (x ∷ before) after e q = absurd (let w : _≡_ {A = ℕ} 0 1 = cc in omega arith)
+stays-at [] s r [] after e q = impossible cc
+stays-at [] s r (x ∷ before) after e q = impossible cc
 stays-at (c ∷ cs) s r [] after e q = subst Stays (head-eq-of-cons-eq q) (call-stays s c r)
 stays-at (c ∷ cs) s r (x ∷ before) after e q = stays-at cs (entryOf s c .out .state) (call-stays s c r .0) before after e (tail-eq-of-cons-eq q)
 
 pub ranges : (rec udi : List ℕ) (m : ℕ) (calls : List Call) → Ranges rec udi m calls
 ranges rec udi m calls =
-    let b = loader .begun rec udi m in
+    let b = head-theorems .begun rec udi m in
     record {
       begun = b;
       reached = λ e i. stays-at calls (beginning rec udi m .state) b (i .before) (i .after) e (i .place) .0;

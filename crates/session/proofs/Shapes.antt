@@ -8,24 +8,25 @@ use native.Mathlib.Omega.{arith}
 use lib.Dec.{eqb}
 use lib.ListN.{length, drop, length-append, length-drop}
 use borrow.Author.Tests.{eqb-true, eqb-false}
+use Rattle.endian.proofs.Cases.{impossible}
 use Rattle.protocol.specs.Commands.{commandIn, loadIn, carriedBy}
 use Rattle.protocol.proofs.Proved.{protocol}
-use Rattle.loader.specs.Machine.{actionWaiting, actionLoading}
-use Rattle.loader.proofs.Ranges.{never}
+use Rattle.head.specs.Machine.{actionWaiting, actionLoading}
+use Rattle.head.proofs.Ranges.{never}
 use Rattle.endian.specs.Lists.{All}
 use Rattle.session.specs.Reading.{bodyOf, Query, Load, GoodLoad, Opens, Block, carried, sizeOf}
-use Rattle.loader.specs.declared.acting.Action.{Action}
-use Rattle.loader.specs.declared.acting.Action.the-variants as action
+use Rattle.head.specs.declared.Action.{Action}
+use Rattle.head.specs.declared.Action.the-variants as action
 
 -- ---- what a frame asks for, against what it is
 
 -- while waiting
 pub data AskedWaiting (f : List ℕ) : Action → Type 0 where
-  asks-name : Query f → AskedWaiting f action.Name
-  asks-udi : Query f → AskedWaiting f action.Udi
-  asks-load : Load f → AskedWaiting f action.Load
-  wrong-command : (Query f → ⊥) → (Load f → ⊥) → AskedWaiting f action.WrongCommand
-  wrong-length : (Query f → ⊥) → (Load f → ⊥) → AskedWaiting f action.WrongLength
+  asks-name : Query f → AskedWaiting f action.AnswerName
+  asks-udi : Query f → AskedWaiting f action.AnswerUdi
+  asks-load : Load f → AskedWaiting f action.TakeLoad
+  wrong-command : (Query f → ⊥) → (Load f → ⊥) → AskedWaiting f action.StopCommand
+  wrong-length : (Query f → ⊥) → (Load f → ⊥) → AskedWaiting f action.StopLength
 
 pub asked-waiting : (f : List ℕ) → AskedWaiting f (actionWaiting (commandIn f) (length (bodyOf f)))
 asked-waiting f = go (eqb c 0x01) (eqb c 0x08) (eqb c 0x03) (eqb n 1) (eqb n 128) refl refl refl refl refl
@@ -37,7 +38,7 @@ asked-waiting f = go (eqb c 0x01) (eqb c 0x08) (eqb c 0x03) (eqb n 1) (eqb n 128
     n = length (bodyOf f)
 
     go : (x y z t u : Bool) → eqb c 0x01 ≡ x → eqb c 0x08 ≡ y → eqb c 0x03 ≡ z → eqb n 1 ≡ t → eqb n 128 ≡ u
-        → AskedWaiting f (cond x (cond t action.Name action.WrongLength) (cond y (cond t action.Udi action.WrongLength) (cond z (cond u action.Load action.WrongLength) action.WrongCommand)))
+        → AskedWaiting f (cond x (cond t action.AnswerName action.StopLength) (cond y (cond t action.AnswerUdi action.StopLength) (cond z (cond u action.TakeLoad action.StopLength) action.StopCommand)))
     go true y z true u ex ey ez et eu = asks-name (eqb-true n 1 et, inl (eqb-true c 0x01 ex))
     go true y z false u ex ey ez et eu =
         let e = eqb-true c 0x01 ex in
@@ -54,9 +55,9 @@ asked-waiting f = go (eqb c 0x01) (eqb c 0x08) (eqb c 0x03) (eqb n 1) (eqb n 128
 
 -- while loading
 pub data AskedLoading (f : List ℕ) : Action → Type 0 where
-  asks-block : Block f → AskedLoading f action.Block
-  no-command : (Block f → ⊥) → AskedLoading f action.WrongCommand
-  no-length : (Block f → ⊥) → AskedLoading f action.WrongLength
+  asks-block : Block f → AskedLoading f action.TakeBlock
+  no-command : (Block f → ⊥) → AskedLoading f action.StopCommand
+  no-length : (Block f → ⊥) → AskedLoading f action.StopLength
 
 pub asked-loading : (f : List ℕ) → AskedLoading f (actionLoading (commandIn f) (length (bodyOf f)))
 asked-loading f = go (eqb c 0x05) (eqb n 128) refl refl
@@ -67,7 +68,7 @@ asked-loading f = go (eqb c 0x05) (eqb n 128) refl refl
     n : ℕ
     n = length (bodyOf f)
 
-    go : (x u : Bool) → eqb c 0x05 ≡ x → eqb n 128 ≡ u → AskedLoading f (cond x (cond u action.Block action.WrongLength) action.WrongCommand)
+    go : (x u : Bool) → eqb c 0x05 ≡ x → eqb n 128 ≡ u → AskedLoading f (cond x (cond u action.TakeBlock action.StopLength) action.StopCommand)
     go true true ex eu = asks-block (eqb-true n 128 eu, eqb-true c 0x05 ex)
     go true false ex eu = no-length (λ b. eqb-false n 128 eu (b .0))
     go false u ex eu = no-command (λ b. eqb-false c 0x05 ex (b .1))
@@ -112,8 +113,8 @@ module _ (m : ℕ) where
 
   -- there is no start without a good load
   pub no-load : (os : List (List ℕ)) → All (Opens m) os → (xs : List (List ℕ)) (l : List ℕ) (bs : List (List ℕ)) → GoodLoad m l → os ≡ xs ++ l ∷ bs → ⊥
-  no-load [] a [] l bs g e = let w : _≡_ {A = ℕ} 0 1 = cc in omega arith
-  no-load [] a (x ∷ xs) l bs g e = let w : _≡_ {A = ℕ} 0 1 = cc in omega arith
+  no-load [] a [] l bs g e = impossible cc
+  no-load [] a (x ∷ xs) l bs g e = impossible cc
   no-load (o ∷ os) a [] l bs g e = let q : o ≡ l = head-eq-of-cons-eq e in not-both l (rw (← q) (a .0)) g
   no-load (o ∷ os) a (x ∷ xs) l bs g e = no-load os (a .1) xs l bs g (tail-eq-of-cons-eq e)
 

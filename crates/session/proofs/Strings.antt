@@ -11,7 +11,7 @@ use Rattle.rfc7693.specs.Rfc7693.{initial, compressions, compressed, blake2s}
 use Rattle.endian.specs.Endian.{bytes, firstBytes}
 use Rattle.endian.proofs.Lists.{getD-each}
 use Rattle.endian.proofs.Words.{bytes-length}
-use Rattle.loader.proofs.Ranges.{never}
+use Rattle.head.proofs.Ranges.{never}
 use Rattle.protocol.specs.Commands.{loadIn}
 use Rattle.session.specs.Reading.{Load, measuredId}
 use Rattle.endian.specs.Lists.{Words}

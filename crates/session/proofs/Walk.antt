@@ -4,22 +4,22 @@ use mathlib.Core.Path.{_≡_, refl, sym, ap, _∙_, subst}
 use mathlib.Core.Logic.{_⊎_, inl, inr}
 use mathlib.Core.Bool.{Bool, true, false, cond}
 use mathlib.Core.List.{List, [], _∷_, _++_, append-assoc, append-nil, List·Memᴰ, List·Memᴰ·head, List·Memᴰ·tail, List·Memᴰ·not-nil, List·Memᴰ·cases-cons}
-use native.Mathlib.Omega.{arith}
 use lib.Dec.{eqb}
 use lib.ListN.{length, getD}
 use borrow.Author.Tests.{eqb-true}
-use Rattle.loader.specs.State.{live, ended}
-use Rattle.loader.specs.Answers.{Report, refused, continues, stopped, started, Outcome}
-use Rattle.loader.specs.Machine.{refusal, processed, step}
-use Rattle.loader.proofs.Ranges.{never, by-test}
-use Rattle.loader.proofs.Steps.{admitted, admitted-as}
-use Rattle.loader.proofs.Proved.{loader}
+use Rattle.endian.proofs.Cases.{impossible}
+use Rattle.head.specs.State.{live, ended}
+use Rattle.head.specs.Answers.{Report, refused, continues, stopped, started, Outcome}
+use Rattle.head.specs.Machine.{refusal, processed, step}
+use Rattle.head.proofs.Ranges.{never, by-test}
+use Rattle.head.proofs.Admitted.{admitted, admitted-as}
+use Rattle.head.proofs.Proved.{head-theorems}
 use Rattle.session.specs.Reading.{Starting}
 use Rattle.session.specs.Session.{Call, Entry, entryOf, log, isAccepted, accepted, receivedBytes, OneRam}
 use Rattle.session.proofs.Acting.{Leaves}
 use Rattle.session.proofs.Calls.{Live, not-live, After, goes-on, has-started, has-stopped, after}
-use Rattle.loader.specs.declared.Phase.the-variants as phase
-use Rattle.loader.specs.declared.State.{State}
+use Rattle.head.specs.declared.Phase.the-variants as phase
+use Rattle.head.specs.declared.State.{State}
 
 abbrev pub numberOf : State → Call → ℕ
 numberOf s c = refusal s (length (c .room)) (length (c .ram)) (length (c .uds))
@@ -35,7 +35,7 @@ taken (started a n) h = refl
 pub call-taken : (s : State) (c : Call) → numberOf s c ≡ 0 → isAccepted (entryOf s c .out .report) ≡ true
 call-taken s c e =
     taken (entryOf s c .out .report)
-    (λ k r. let h = loader .call s (c .byte) (c .room) (c .ram) (c .uds) .refuses k .0 r in h .1 (h .0 ∙ e))
+    (λ k r. let h = head-theorems .call s (c .byte) (c .room) (c .ram) (c .uds) .refuses k .0 r in h .1 (h .0 ∙ e))
 
 pub call-is : (s : State) (c : Call) → numberOf s c ≡ 0 → entryOf s c .out ≡ processed s (c .byte) (c .room) (c .ram) (c .uds)
 call-is s c e = sym (admitted-as s (c .byte) (c .room) (c .ram) (c .uds) (sym e))
@@ -103,7 +103,7 @@ module _ (rec udi : List ℕ) (m : ℕ) where
             → Begun (bs ++ receivedBytes (entry o ∷ later o)) x
         only x (inl q) a f =
             let r : started (a .address) (a .size) ≡ continues = sym (a .answers) ∙ ap (λ (y : Entry). y .out .report) q ∙ e in
-            absurd (let z : _≡_ {A = ℕ} 0 1 = cc in omega arith)
+            impossible cc
         only x (inr j) a f = f j
     after-walk o (has-started w l z) one =
         let n = nothing (o .state) cs (ap (λ (s : State). live (s .progress .phase)) (l .state) ∙ ended-start m) in
@@ -128,7 +128,7 @@ module _ (rec udi : List ℕ) (m : ℕ) where
         only : later o ≡ [] → (x : Entry) → (x ≡ entry o) ⊎ List·Memᴰ x (later o) → Answered x → Begun (bs ++ receivedBytes (entry o ∷ later o)) x
         only n x (inl p) a =
             let t : started (a .address) (a .size) ≡ stopped k = sym (a .answers) ∙ ap (λ (y : Entry). y .out .report) p ∙ r in
-            absurd (let y : _≡_ {A = ℕ} 0 1 = cc in omega arith)
+            impossible cc
         only n x (inr j) a = absurd (List·Memᴰ·not-nil (subst (List·Memᴰ x) n j))
 
     taken-walk : (o : Outcome) (t : Bool) → t ≡ true → (r : List ℕ) → (c .ram ≡ r → OneRam (o .ram) (later o) → Walk bs (entry o ∷ later o))

@@ -14,8 +14,8 @@ use Rattle.protocol.specs.Commands.{loadIn, usesUss}
 use Rattle.protocol.specs.Replies.{sent, digestReply, putIn}
 use Rattle.record.specs.Record.{typeField, numberIn}
 use Rattle.endian.specs.Lists.{zeros, Words}
-use Rattle.loader.specs.Answers.{refused, started}
-use Rattle.loader.specs.Begin.{beginning}
+use Rattle.head.specs.Answers.{refused, started}
+use Rattle.head.specs.Begin.{beginning}
 use Rattle.session.specs.Reading.{sizeOf, programOf, digestOf, Allowed, chained, measuredId, Starting}
 use Rattle.session.specs.Session.{Entry, Among, isAccepted, receivedBytes, Session, allOf, acceptedOf, hasEnded, refusalIn}
 

@@ -11,11 +11,11 @@ use Rattle.rfc7693.specs.Rfc7693.{compressions}
 use Rattle.protocol.specs.Commands.{blocksFor, countIn}
 use Rattle.record.specs.Record.{typeField, numberIn}
 use Rattle.cdi.specs.Theorems.{Inputs, stringOf}
-use Rattle.loader.specs.Answers.{continues, stopped}
-use Rattle.loader.specs.Begin.{beginning}
-use Rattle.loader.specs.Machine.{step}
+use Rattle.head.specs.Answers.{continues, stopped}
+use Rattle.head.specs.Begin.{beginning}
+use Rattle.head.specs.Machine.{step}
 use Rattle.session.specs.Session.{isAccepted}
-use Rattle.loader.specs.declared.State.{State}
+use Rattle.head.specs.declared.State.{State}
 
 -- a state and what is lent with it
 pub record Head : Type 0 where

@@ -15,8 +15,8 @@ use Rattle.protocol.specs.Commands.{firmware, loadIn, carriedBy, blocksFor, pla
 use Rattle.endian.specs.Lists.{padded, Bytes, Words}
 use Rattle.protocol.specs.Theorems.{loadWith}
 use Rattle.record.specs.Record.{typeField, numberIn}
-use Rattle.loader.specs.Answers.{started}
-use Rattle.loader.specs.Begin.{beginning}
+use Rattle.head.specs.Answers.{started}
+use Rattle.head.specs.Begin.{beginning}
 use Rattle.client.specs.Frames.{refusal, commandFrame}
 use Rattle.client.specs.Replies.{takingAs, taking}
 use Rattle.client.specs.declared.Secret.{Secret}

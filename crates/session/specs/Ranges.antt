@@ -4,10 +4,10 @@ use Prim.Native.Nat.{ℕ}
 use mathlib.Core.Path.{_≡_}
 use mathlib.Core.Bool.{true}
 use mathlib.Core.List.{List}
-use Rattle.loader.specs.State.{inRange}
-use Rattle.loader.specs.Answers.{refused}
-use Rattle.loader.specs.Begin.{beginning}
-use Rattle.loader.specs.declared.State.{State}
+use Rattle.head.specs.State.{inRange}
+use Rattle.head.specs.Answers.{refused}
+use Rattle.head.specs.Begin.{beginning}
+use Rattle.head.specs.declared.State.{State}
 use Rattle.session.specs.Session.{Call, Entry, Among, log}
 
 -- any begin and any calls after it

@@ -9,10 +9,10 @@ use lib.Dec.{eqb, ltb}
 use lib.ListN.{length}
 use Rattle.endian.specs.Lists.{Words}
 use Rattle.record.specs.Record.{typeField, numberIn}
-use Rattle.loader.specs.Answers.{Report, refused, continues, stopped, started, Outcome}
-use Rattle.loader.specs.Begin.{beginning}
-use Rattle.loader.specs.Machine.{step}
-use Rattle.loader.specs.declared.State.{State}
+use Rattle.head.specs.Answers.{Report, refused, continues, stopped, started, Outcome}
+use Rattle.head.specs.Begin.{beginning}
+use Rattle.head.specs.Machine.{step}
+use Rattle.head.specs.declared.State.{State}
 
 -- what a call gets besides the state: byte, reply room, RAM and UDS may be anything. That a word of the UDS has 32 bits is its type in the code
 pub record Call : Type 0 where

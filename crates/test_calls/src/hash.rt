@@ -1,5 +1,5 @@
 // A hash in parts.
-use super::head;
+use super::session;
 use super::image;
 use blake2s::Answer;
 use blake2s::Context;
@@ -21,7 +21,7 @@ pub fn call(x: Context, c: [u8; 320]) -> Context {
     match c[0] {
         2 => begin(c),
         3 => update(x, c),
-        4 => finish(x, head::length(c[1], 0, 255)),
+        4 => finish(x, session::length(c[1], 0, 255)),
         _ => x,
     }
 }

@@ -1,10 +1,10 @@
 // Numbers and states as bytes: a state has 250.
 use libc::STDOUT_FILENO;
-use loader::Config;
-use loader::Incoming;
-use loader::Phase;
-use loader::Progress;
-use loader::State;
+use head::Config;
+use head::Incoming;
+use head::Phase;
+use head::Progress;
+use head::State;
 ghost use Prim.Native.Nat.{_+_, _≤_};
 
 // The word at a place.

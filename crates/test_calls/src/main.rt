@@ -2,19 +2,19 @@
 // compares the output with what its independent programs say. The input has the number of calls in four bytes and then 320 bytes for each;
 // byte 0 of a call says which it is.
 mod hash;
-mod head;
 mod image;
+mod session;
 mod small;
 
 use libc::STDIN_FILENO;
 
 fn main() {
     let mut left = read_count();
-    let mut kept = head::none();
+    let mut kept = session::none();
     let mut context = hash::none();
     while 0 < left {
         let c = read_call();
-        let next = head::call(kept, c);
+        let next = session::call(kept, c);
         kept = next;
         let more = hash::call(context, c);
         context = more;

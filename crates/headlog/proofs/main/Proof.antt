@@ -5,6 +5,7 @@ use mathlib.Core.Bool.{Bool, true, false, not, cond}
 use mathlib.Core.Path.{_≡_}
 use mathlib.Core.List.{List}
 use lib.ListN.{length}
+use Rattle.endian.proofs.Cases.{impossible}
 use Rattle.printer.specs.Output.{received, isOver}
 use Rattle.printer.specs.Turns.{turnOf, isFull, waited, turned}
 use Rattle.printer.specs.declared.turns.Session.{Session}
@@ -31,7 +32,7 @@ fewer s (Byte b) ram h = go (isFull s)
     go false = either (isOver (received (s .state) (s .words) ram b .report))
 
 not-over : (k n : ℕ) (o : Bool) → not o ≡ true → k < n → k < cond o 0 n
-not-over k n true e h = absurd (let w : _≡_ {A = ℕ} 0 1 = cc in omega arith)
+not-over k n true e h = impossible cc
 not-over k n false e h = h
 
 abbrev Inv-loop : tie.InvT-loop

@@ -2,8 +2,8 @@
 use mathlib.Core.Path.{_≡_, sym, _∙_}
 use mathlib.Core.Bool.{true}
 use borrow.Author.Tests.{eq-eqb, ne-eqb, lt-ltb, le-ltb, not-true, not-false}
-use Rattle.loader.specs.State.{inRange, live}
-use Rattle.loader.specs.Machine.{refusal}
+use Rattle.head.specs.State.{inRange, live}
+use Rattle.head.specs.Machine.{refusal}
 use borrow.Author.Needs.{needs}
 use Rattle.loader.proofs.admit.Statement.{statement}
 use Rattle.loader.proofs.admit.Tie as tie
@@ -35,20 +35,20 @@ returns-3 c =
 returns-4 : tie.Need-returns-4
 unfolding refusal
 returns-4 c =
-    let b = c .before .before .before in
-    rw (ranged (b .before .before), living b, le-ltb _ _ (c .before .before .if3 .left), ne-eqb _ _ (c .if4 .taken))
+    let b = c .before .before in
+    rw (ranged (b .before .before), living b, le-ltb _ _ (c .before .if3 .left), ne-eqb _ _ (c .if4 .taken))
 
 returns-5 : tie.Need-returns-5
 unfolding refusal
 returns-5 c =
-    let b = c .before .before .before .before in
-    rw (ranged (b .before .before), living b, le-ltb _ _ (c .before .before .before .if3 .left), eq-eqb _ _ (c .before .if4 .left), ne-eqb _ _ (c .if5 .taken))
+    let b = c .before .before .before in
+    rw (ranged (b .before .before), living b, le-ltb _ _ (c .before .before .if3 .left), eq-eqb _ _ (c .before .if4 .left), ne-eqb _ _ (c .if5 .taken))
 
 returns-6 : tie.Need-returns-6
 unfolding refusal
 returns-6 c =
-    let b = c .before .before .before .before in
-    rw (ranged (b .before .before), living b, le-ltb _ _ (c .before .before .before .if3 .left), eq-eqb _ _ (c .before .if4 .left), eq-eqb _ _ (c .if5 .left))
+    let b = c .before .before .before in
+    rw (ranged (b .before .before), living b, le-ltb _ _ (c .before .before .if3 .left), eq-eqb _ _ (c .before .if4 .left), eq-eqb _ _ (c .if5 .left))
 
 pub admit-spec : {M : Type 1} → statement M
 admit-spec =

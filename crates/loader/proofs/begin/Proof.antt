@@ -3,7 +3,7 @@ use mathlib.Core.Path.{ap, _∙_}
 use lib.ListN.{length}
 use borrow.Author.Tests.{eq-eqb, ne-eqb, not-true, not-false}
 use Rattle.record.specs.Record.{Contents}
-use Rattle.loader.specs.Begin.{byType, beginning}
+use Rattle.head.specs.Begin.{byType, beginning}
 use borrow.Author.Needs.{needs}
 use Rattle.loader.proofs.begin.Statement.{statement}
 use Rattle.loader.proofs.begin.Tie as tie

@@ -1,37 +1,46 @@
--- A refusal is the number that admit gives; otherwise the call has what process asks for.
-use Rattle.loader.proofs.Steps.{refused-as, admitted-as, admitted}
-use Rattle.loader.specs.declared.Admission.{Admission}
-use Rattle.loader.specs.Steps.{admissionNumber}
+-- A refusal is the number that admit gives (`refused-with`); otherwise the call has what process asks for.
+use mathlib.Core.Path.{_≡_, sym, ap, _∙_}
 use lib.ListN.{length}
-use mathlib.Core.Path.{sym, ap, _∙_}
+use Rattle.head.specs.Machine.{refusal}
+use Rattle.head.proofs.Admitted.{admitted, admitted-as}
+use Rattle.loader.specs.Steps.{admissionNumber}
+use Rattle.loader.specs.declared.Admission.{Admission}
+use Rattle.loader.proofs.Steps.{refused-as}
 use borrow.Author.Needs.{needs}
 use Rattle.loader.proofs.receive.Statement.{statement}
 use Rattle.loader.proofs.receive.Tie as tie
 
+-- the call, from where it is tested
+abbrev call : tie.After-admit → tie.Start
+call y = y .before .before .before .before
+
+refused-with : (y : tie.After-admit) (x : Admission) → y .admit .result ≡ x
+    → admissionNumber x ≡ refusal (call y .args .s) (length (call y .args .room .now)) (length (call y .args .ram .now)) (length (call y .args .uds .now))
+refused-with y x e = ap (λ (z : Admission). admissionNumber z) (sym e) ∙ y .admit .ensures
+
 process-requires : tie.Need-process-requires
 process-requires c κs =
-    let z = c .before .before .before .before .before .before .before .before .before in
-    let a = z .args in
-    let y = c .before .before .before .before .before .admit in
-    let e = sym (y .ensures) ∙ ap (λ (x : Admission). admissionNumber x) (c .before .before .before .enum-told .given .1) in
+    let t = c .before .before .before in
+    let y = t .before .before in
+    let a = call y .args in
+    let e = sym (refused-with y _ (t .enum-told .given .1)) in
     let f = admitted (a .s) (length (a .room .now)) (length (a .ram .now)) (length (a .uds .now)) e in
     (f .range, (f .room-fits, (f .ram-same, f .words)))
 
 returns : tie.Need-returns
 returns c =
-    let z = c .before .before .before .before .before .before .before .before in
-    let a = z .args in
-    let y = c .before .before .before .before .admit in
-    let e = ap (λ (x : Admission). admissionNumber x) (sym (c .before .before .why .given .1)) ∙ y .ensures in
-    refused-as (a .s) (a .byte) (a .room .now) (a .ram .now) (a .uds .now) _ (c .plain .result) (c .plain .ensures) e
+    let t = c .before .before in
+    let y = t .before .before in
+    let a = call y .args in
+    refused-as (a .s) (a .byte) (a .room .now) (a .ram .now) (a .uds .now) _ (c .plain .result) (c .plain .ensures) (refused-with y _ (t .why .given .1))
 
 returns-2 : tie.Need-returns-2
 returns-2 c =
-    let z = c .before .before .before .before .before .before .before .before .before .before .before .before .before .before .before .before in
-    let a = z .args in
-    let y = c .before .before .before .before .before .before .before .before .before .before .before .before .admit in
-    let e = ap (λ (x : Admission). admissionNumber x) (sym (c .before .before .before .before .before .before .before .before .before .before .enum-told .given .1)) ∙ y .ensures in
-    c .before .before .before .before .before .before .process .ensures ∙ admitted-as (a .s) (a .byte) (a .room .now) (a .ram .now) (a .uds .now) e
+    let x : tie.After-process = c .before .before .before .before .before .before in
+    let t = x .before .before .before .before in
+    let y = t .before .before in
+    let a = call y .args in
+    rw (← (admitted-as (a .s) (a .byte) (a .room .now) (a .ram .now) (a .uds .now) (refused-with y _ (t .enum-told .given .1)))) (x .process .ensures)
 
 pub receive-spec : {M : Type 1} → statement M
 receive-spec =

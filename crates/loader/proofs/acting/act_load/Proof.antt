@@ -3,16 +3,19 @@ use mathlib.Core.Path.{_≡_}
 use mathlib.Core.Bool.{true, false}
 use native.Mathlib.Omega.{arith}
 use Rattle.protocol.specs.Replies.{loadReply}
-use Rattle.loader.specs.Machine.{loaded, loadAnswer, afterLoad}
-use Rattle.loader.specs.declared.State.{State}
+use Rattle.head.specs.Machine.{loaded, loadAnswer, afterLoad}
+use Rattle.head.specs.declared.State.{State}
 use Rattle.loader.proofs.Steps.{load-made}
 use borrow.Author.Needs.{needs}
 use Rattle.loader.proofs.acting.act_load.Statement.{statement}
 use Rattle.loader.proofs.acting.act_load.Tie as tie
 
--- the state, from where the reply is made
+-- where the frame is put together, from where the reply is made
+abbrev framing : tie.After-load-reply → tie.After-frame
+framing y = y .before .before .before
+
 abbrev state : tie.After-load-reply → State
-state y = y .before .before .before .before .before .before .before .args .s
+state y = framing y .before .before .before .before .args .s
 
 made : (y : tie.After-load-reply) → (y .load-reply .result ≡ loadAnswer (state y))
     × (y .before .load-is-good .result ≡ true → loaded (y .before .before .read-load .result) ≡ afterLoad (state y))
@@ -20,7 +23,7 @@ made : (y : tie.After-load-reply) → (y .load-reply .result ≡ loadAnswer (sta
 made y =
     let g = y .before in
     let l = g .before in
-    let f = l .before .frame in
+    let f = framing y .frame in
     load-made (state y) (f .result) (l .read-load .result) (g .load-is-good .result) (y .load-reply .result) (f .ensures) (l .read-load .ensures)
     (g .load-is-good .ensures) (y .load-reply .ensures)
 
@@ -30,9 +33,11 @@ answer-requires c κs = (search needs, rw (c .before .before .before .load-reply
 
 returns : tie.Need-returns
 returns c =
-    let m = made (c .before .before .before .before .before .before) in
-    let x = c .before .before .answer .ensures in
-    (rw (← (m .0), ← (m .1 (c .before .before .before .before .before .if1 .taken)), ← (c .before .before .before .before .loaded .ensures)) (x .0), rw (← (m .0)) (x .1))
+    let x = c .before .before in
+    let l = x .before .before in
+    let t = l .before in
+    let m = made (t .before) in
+    rw (← (m .0), ← (m .1 (t .if1 .taken)), ← (l .loaded .ensures)) (x .answer .ensures)
 
 answer-requires-2 : tie.Need-answer-requires-2
 unfolding loadReply
@@ -40,9 +45,10 @@ answer-requires-2 c κs = (search needs, rw (c .before .before .load-reply .ensu
 
 returns-2 : tie.Need-returns-2
 returns-2 c =
-    let m = made (c .before .before .before .before .before) in
-    let x = c .before .before .answer2 .ensures in
-    (rw (← (m .0), ← (m .2 (c .before .before .before .before .if1 .left))) (x .0), rw (← (m .0)) (x .1))
+    let x = c .before .before in
+    let t = x .before .before in
+    let m = made (t .before) in
+    rw (← (m .0), ← (m .2 (t .if1 .left))) (x .answer2 .ensures)
 
 pub act-load-spec : {M : Type 1} → statement M
 act-load-spec =

@@ -4,7 +4,10 @@ use Rattle.loader.proofs.acting.answer.Statement.{statement}
 use Rattle.loader.proofs.acting.answer.Tie as tie
 
 returns : tie.Need-returns
-returns c = (rw (← (c .before .before .before .idle .ensures)) (c .plain .ensures), c .before .before .before .before .before .before .put .ensures)
+returns c =
+    let i = c .before .before .before in
+    let p = i .before .before .before in
+    (rw (← (i .idle .ensures)) (c .plain .ensures), p .put .ensures)
 
 pub answer-spec : {M : Type 1} → statement M
 answer-spec =

@@ -1,11 +1,8 @@
--- The digest is what is measured (`measured`) and what the last reply says (`sent-digest`); the test on it decides between a start and stop 25.
-use Prim.Native.Nat.{ℕ}
+-- The digest is what is measured and what the last reply says (`sent-digest`); the test on it decides between a start and stop 25.
 use mathlib.Core.Path.{_≡_, refl, sym, ap, _∙_}
-use mathlib.Core.List.{List}
 use native.Mathlib.Omega.{arith}
 use Rattle.protocol.specs.Replies.{sent, digestReply, putIn}
 use Rattle.protocol.specs.declared.Reply.{Reply}
-use Rattle.loader.specs.Machine.{finishedWith, finished}
 use Rattle.loader.proofs.Steps.{ends-in-start, ends-in-stop}
 use borrow.Author.Needs.{needs}
 use Rattle.loader.proofs.acting.finish.Statement.{statement}
@@ -15,39 +12,43 @@ put-requires : tie.Need-put-requires
 unfolding digestReply
 put-requires c κs = (search needs, rw (c .before .digest-reply .ensures) (omega arith))
 
--- the call, from where the reply is put
-abbrev call : tie.After-put → tie.Start
-call y = y .before .before .before .before .before .before .before .before .before .before
+-- the call, from where the program is measured
+abbrev call : tie.After-measure → tie.Start
+call m = m .before .before .before .before .before .before .before
 
--- the digest
-abbrev digest : tie.After-put → List ℕ
-digest y = y .before .before .before .measure .result
+-- where it is measured, from where the reply is put
+abbrev measuring : tie.After-put → tie.After-measure
+measuring y = y .before .before .before
 
-sent-digest : (y : tie.After-put) → y .put .last .0 ≡ putIn (call y .args .room .now) (sent (digestReply (call y .args .s .incoming .header) (digest y)))
-sent-digest y = y .put .ensures ∙ ap (λ (r : Reply). putIn (call y .args .room .now) (sent r)) (y .before .before .digest-reply .ensures)
+-- where the reply is put, from where it is tested whether the program may start
+abbrev putting : tie.After-allowed → tie.After-put
+putting t = t .before .before .before
 
-measured : (y : tie.After-put) → finishedWith (digest y) (call y .args .s) (call y .args .room .now) (call y .args .ram .now) (call y .args .uds .now)
-    ≡ finished (call y .args .s) (call y .args .room .now) (call y .args .ram .now) (call y .args .uds .now)
-measured y =
-    let a = call y .args in
-    ap (λ (d : List ℕ). finishedWith d (a .s) (a .room .now) (a .ram .now) (a .uds .now)) (y .before .before .before .measure .ensures)
+sent-digest : (y : tie.After-put)
+    → y .put .last .0 ≡ putIn (call (measuring y) .args .room .now) (sent (digestReply (call (measuring y) .args .s .incoming .header) (measuring y .measure .result)))
+sent-digest y = y .put .ensures ∙ ap (λ (r : Reply). putIn (call (measuring y) .args .room .now) (sent r)) (y .before .before .digest-reply .ensures)
 
 returns : tie.Need-returns
 returns c =
-    let y = c .before .before .before .before .before .before .before .before in
-    let a = call y .args in
-    let t = c .before .before .start in
-    ends-in-start (a .s) (digest y) (a .room .now) (a .ram .now) (a .uds .now) (t .result) _ _ (sent-digest y)
-    (sym (c .before .before .before .before .before .allowed .ensures) ∙ c .before .before .before .before .if1 .taken) (t .ensures)
-    ∙ measured y
+    let x = c .before .before in
+    let i = x .before .before in
+    let t = i .before in
+    let y = putting t in
+    let m = measuring y in
+    let a = call m .args in
+    ends-in-start (a .s) (m .measure .result) (a .room .now) (a .ram .now) (a .uds .now) (x .start .result) _ _ (m .measure .ensures) (sent-digest y)
+    (sym (t .allowed .ensures) ∙ i .if1 .taken) (x .start .ensures)
 
 returns-2 : tie.Need-returns-2
 returns-2 c =
-    let y = c .before .before .before .before .before .before in
-    let a = call y .args in
-    ends-in-stop (a .s) (digest y) (a .room .now) (a .ram .now) (a .uds .now) (c .plain .result) _ _ (sent-digest y)
-    (sym (c .before .before .before .allowed .ensures) ∙ c .before .before .if1 .left) (rw (← (c .before .ended .ensures)) (c .plain .ensures)) refl
-    ∙ measured y
+    let e = c .before in
+    let i = e .before in
+    let t = i .before in
+    let y = putting t in
+    let m = measuring y in
+    let a = call m .args in
+    ends-in-stop (a .s) (m .measure .result) (a .room .now) (a .ram .now) (a .uds .now) (c .plain .result) _ _ (m .measure .ensures) (sent-digest y)
+    (sym (t .allowed .ensures) ∙ i .if1 .left) (rw (← (e .ended .ensures)) (c .plain .ensures)) refl
 
 pub finish-spec : {M : Type 1} → statement M
 finish-spec =

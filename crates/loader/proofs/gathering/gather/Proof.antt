@@ -1,6 +1,6 @@
 -- Between frames the byte is a header; otherwise the header of the frame says what it is.
-use Rattle.loader.proofs.Ranges.{incoming-got}
-use Rattle.loader.specs.Machine.{gathered}
+use Rattle.head.proofs.Ranges.{incoming-got}
+use Rattle.head.specs.Machine.{gathered}
 use borrow.Author.Tests.{eq-eqb, ne-eqb}
 use borrow.Author.Needs.{needs}
 use Rattle.loader.proofs.gathering.gather.Statement.{statement}

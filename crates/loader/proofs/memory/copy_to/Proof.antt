@@ -1,5 +1,5 @@
 -- The part is filled whole.
-use Rattle.loader.proofs.Bytes.{put-part}
+use Rattle.loader.proofs.Copies.{put-part}
 use Prim.Native.Nat.{_+_, _-_}
 use lib.ListN.{length}
 use native.Mathlib.Omega.{arith}
@@ -10,11 +10,12 @@ use Rattle.loader.proofs.memory.copy_to.Tie as tie
 
 returns : tie.Need-returns
 returns c =
-    let a = c .before .before .before .before .before .before .args in
+    let y = c .before .before in
+    let a = y .before .before .before .before .args in
     let s = a .src .now in
     let d = a .dst .now in
     let n : a .at + length s - a .at ≡ length s = omega arith in
-    rw (c .before .before .copy .ensures .1) (put-part d s (a .at) (a .at + length s - a .at) n)
+    rw (y .copy .ensures .1) (put-part d s (a .at) (a .at + length s - a .at) n)
 
 pub copy-to-spec : {M : Type 1} → statement M
 copy-to-spec =

@@ -13,9 +13,10 @@ slice-aggregate-hash-2 c = let a = c .before .before .before .args in rw length-
 
 returns : tie.Need-returns
 returns c =
-    let a = c .before .before .before .before .before .before .args in
+    let y = c .before in
+    let a = y .before .before .before .before .before .args in
     let l : length (take (a .n) (a .ram .now)) ≤ 4294967295 = rw length-take (omega arith) in
-    c .before .hash .ensures .1 ∙ digest-32 (take (a .n) (a .ram .now)) (replicate 32 0) l refl
+    y .hash .ensures .1 ∙ digest-32 (take (a .n) (a .ram .now)) (replicate 32 0) l refl
 
 pub measure-spec : {M : Type 1} → statement M
 measure-spec =

@@ -1,5 +1,5 @@
 -- The header, then the body after it.
-use Rattle.loader.proofs.Bytes.{put-front}
+use Rattle.loader.proofs.Copies.{put-front}
 use lib.ListN.{length, take, length-set, length-take}
 use native.Mathlib.Omega.{arith}
 use mathlib.Core.Path.{_≡_, _∙_}
@@ -24,9 +24,9 @@ same-length c = c .before .before .copy-to .kept .0 ∙ simp length-set
 
 returns : tie.Need-returns
 returns c =
-    let z = c .before .before .before .before .before .before .before in
-    let a = z .args in
-    c .before .before .copy-to .ensures ∙ put-front (a .room .now) (take (a .r .len) (a .r .body)) (a .r .header) (omega arith)
+    let y = c .before .before in
+    let a = y .before .before .before .before .before .args in
+    y .copy-to .ensures ∙ put-front (a .room .now) (take (a .r .len) (a .r .body)) (a .r .header) (omega arith)
 
 pub put-spec : {M : Type 1} → statement M
 put-spec =

@@ -1,7 +1,7 @@
 -- What the call settles is the turn (`turn-as`).
 use Prim.Native.Nat.{_-_, _^_}
 use mathlib.Core.Path.{ap}
-use Rattle.loader.specs.Answers.{Outcome}
+use Rattle.head.specs.Answers.{Outcome}
 use Rattle.printer.specs.Output.{received}
 use Rattle.printer.proofs.Outcomes.{turn-as}
 use borrow.Author.Needs.{needs}

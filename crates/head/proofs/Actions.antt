@@ -1,0 +1,18 @@
+-- Which commands a phase does not allow.
+use Prim.Native.Nat.{ℕ}
+use mathlib.Core.Path.{_≡_, subst}
+use mathlib.Core.List.{List}
+use borrow.Author.Tests.{ne-eqb}
+use types.Run.{OneOf}
+use Rattle.head.specs.Machine.{actionWaiting, actionLoading}
+use Rattle.head.specs.declared.Action.the-variants.{StopCommand}
+
+pub not-waiting : (c n : ℕ) → (c ≡ 1 → ⊥) → (c ≡ 8 → ⊥) → (c ≡ 3 → ⊥) → StopCommand ≡ actionWaiting c n
+not-waiting c n p q r = simp (ne-eqb c 1 p, ne-eqb c 8 q, ne-eqb c 3 r)
+
+pub not-loading : (c n : ℕ) → (c ≡ 5 → ⊥) → StopCommand ≡ actionLoading c n
+not-loading c n p = simp (ne-eqb c 5 p)
+
+-- one of ks is not k, which is none of them
+pub other : (ks : List ℕ) (k c : ℕ) → (OneOf ks k → ⊥) → OneOf ks c → c ≡ k → ⊥
+other ks k c h o e = h (subst (λ (x : ℕ). OneOf ks x) e o)

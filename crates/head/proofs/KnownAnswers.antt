@@ -1,0 +1,42 @@
+-- The list of specs/KnownAnswers.antt: the definitions compute to what document 01 says.
+use Prim.Native.Nat.{ℕ, _+_}
+use mathlib.Core.Path.{_≡_, refl, ap}
+use mathlib.Core.List.{List, _∷_, _++_}
+use lib.ListN.{length, take, replicate}
+use lib.Seq.{take-append-add}
+use Rattle.framing.specs.Header.{headerByte}
+use Rattle.endian.specs.Endian.{word}
+use Rattle.protocol.specs.Commands.{loadIn}
+use Rattle.protocol.specs.Replies.{replyHeader, sent, nameReply, udiReply, loadReply, blockReply, digestReply}
+use Rattle.record.specs.Record.{recordAt}
+use Rattle.cdi.proofs.Proved.{cdi}
+use Rattle.head.specs.State.{ended}
+use Rattle.head.specs.KnownAnswers.{KnownAnswers}
+
+-- the first n + k bytes of p, which has n, and of what follows
+front : (p z : List ℕ) (n k : ℕ) → length p ≡ n → take (n + k) (p ++ z) ≡ p ++ take k z
+front p z n k e = rw (← e) (take-append-add p z k)
+
+udi-bytes : (u : List ℕ) → length u ≡ 8 → sent (udiReply 0x30 u) ≡ 0x32 ∷ 0x09 ∷ 0 ∷ u ++ replicate 22 0
+unfolding udiReply replyHeader headerByte
+udi-bytes u l = rw l (ap (λ (x : List ℕ). 0x32 ∷ 0x09 ∷ 0 ∷ x) (front u (replicate 118 0) 8 22 l))
+
+digest-bytes : (d : List ℕ) → length d ≡ 32 → sent (digestReply 0x73 d) ≡ 0x73 ∷ 0x07 ∷ 0 ∷ d ++ replicate 94 0
+unfolding digestReply replyHeader headerByte
+digest-bytes d l = rw l (ap (λ (x : List ℕ). 0x73 ∷ 0x07 ∷ 0 ∷ x) (front d (replicate 94 0) 32 94 l))
+
+pub known-answers : KnownAnswers
+unfolding loadIn word recordAt nameReply loadReply blockReply replyHeader headerByte ended
+known-answers = record {
+  flags = (refl, refl, refl, refl, refl, refl);
+  types = (refl, refl, refl, refl, refl, refl, refl, refl, refl);
+  masks = (refl, refl, refl);
+  name = refl;
+  udi = udi-bytes;
+  taken = refl;
+  not-taken = refl;
+  block = refl;
+  digest = digest-bytes;
+  strings = cdi .strings;
+  ends = λ p m. (refl, refl, refl, refl, refl, refl, refl);
+}

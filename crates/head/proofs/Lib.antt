@@ -1,0 +1,8 @@
+pub mod Same
+pub mod Ranges
+pub mod Actions
+pub mod Admitted
+pub mod Ways
+pub mod Frames
+pub mod Proved
+pub mod KnownAnswers

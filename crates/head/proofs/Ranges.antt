@@ -1,0 +1,130 @@
+-- What a state in range has.
+use Prim.Native.Nat.{ℕ, zero, suc, _+_, _*_, _/_, _%_, _<_, _≤_}
+use mathlib.Core.Bool.{Bool, true, false, cond, and-eq-true-iff}
+use mathlib.Core.Path.{_≡_, refl}
+use native.Mathlib.Omega.{arith}
+use lib.Dec.{eqb, leb}
+use borrow.Author.Tests.{eqb-true, ltb-true, leb-true}
+use Rattle.endian.proofs.Cases.{impossible}
+use Rattle.framing.specs.Header.{Reading, good, headerAt, lengthOf}
+use Rattle.framing.proofs.Headers.{by-bits}
+use Rattle.protocol.specs.Commands.{blocksFor, placeOf, countIn}
+use Rattle.head.specs.State.{bodyLen, incomingOk, loadingOk, progressIn, progressOk, ramOk, inRange}
+use Rattle.head.specs.Machine.{actionIn, actionWaiting}
+use Rattle.head.specs.declared.Phase.{Phase}
+use Rattle.head.specs.declared.Phase.the-variants.{Waiting, Loading, Started, Stopped}
+use Rattle.head.specs.declared.Action.the-variants as action
+use Rattle.head.specs.declared.Incoming.{Incoming}
+use Rattle.head.specs.declared.Progress.{Progress}
+use Rattle.head.specs.declared.State.{State}
+
+-- a test that is both true and false
+pub never : {A : Type 0} → _≡_ {A = Bool} true false → A
+never e = impossible cc
+
+-- by cases on a test, each with what the test says
+pub by-test : {A : Type 0} (P : A → Type 0) (t : Bool) (x y : A) → (t ≡ true → P x) → (t ≡ false → P y) → P (cond t x y)
+by-test P true x y f g = f refl
+by-test P false x y f g = g refl
+
+-- a body has at most 128 bytes
+length-small : (c : ℕ) → c < 4 → lengthOf c ≤ 128
+length-small zero h = omega arith
+length-small (suc zero) h = omega arith
+length-small (suc (suc zero)) h = omega arith
+length-small (suc (suc (suc zero))) h = omega arith
+length-small (suc (suc (suc (suc c)))) h = absurd (omega arith)
+
+pub body-small : (h : ℕ) → bodyLen (headerAt h) ≤ 128
+body-small h = by-bits h (λ (r : Reading). bodyLen r ≤ 128) (λ p q. length-small (h / 1 % 4) (omega arith)) (λ g. omega arith)
+
+-- and at least one
+some-length : (c : ℕ) → c < 4 → 1 ≤ lengthOf c
+some-length zero h = omega arith
+some-length (suc zero) h = omega arith
+some-length (suc (suc zero)) h = omega arith
+some-length (suc (suc (suc zero))) h = omega arith
+some-length (suc (suc (suc (suc c)))) h = absurd (omega arith)
+
+pub length-some : (h id ep n : ℕ) → headerAt h ≡ good id ep n → 1 ≤ n
+length-some h id ep n =
+    by-bits h (λ (r : Reading). r ≡ good id ep n → 1 ≤ n)
+    (λ p q e. let l : lengthOf (h / 1 % 4) ≡ n = cc in let o = some-length (h / 1 % 4) (omega arith) in omega arith)
+    (λ g e. impossible cc)
+
+-- how many bytes of a frame have come, where one is being gathered
+pub incoming-got : (i : Incoming) → incomingOk i ≡ true → (i .got ≡ 0 → ⊥) → (1 ≤ i .got) × (i .got ≤ 128)
+incoming-got i e n =
+    let s = body-small (i .header) in
+    let l : i .got ≤ bodyLen (headerAt (i .header)) = go (eqb (i .got) 0) refl e in
+    (omega (arith, n), omega arith)
+  where
+    go : (t : Bool) → eqb (i .got) 0 ≡ t → cond t (eqb (i .header) 0) (leb (i .got) (bodyLen (headerAt (i .header)))) ≡ true
+        → i .got ≤ bodyLen (headerAt (i .header))
+    go true p q = absurd (n (eqb-true (i .got) 0 p))
+    go false p q = leb-true (i .got) (bodyLen (headerAt (i .header))) q
+
+-- the numbers of a load
+pub record Loaded (p : Progress) (m : ℕ) : Type 0 where
+  pub some : 1 ≤ p .size
+  pub fits : p .size ≤ m
+  pub due : p .block < blocksFor (p .size)
+
+pub loading-facts : (p : Progress) (m : ℕ) → loadingOk p m ≡ true → Loaded p m
+loading-facts p m e =
+    let a = and-eq-true-iff (leb 1 (p .size)) _ .0 e in
+    let b = and-eq-true-iff (leb (p .size) m) _ .0 (a .1) in
+    record {
+      some = leb-true 1 (p .size) (a .0);
+      fits = leb-true (p .size) m (b .0);
+      due = ltb-true (p .block) (blocksFor (p .size)) (b .1);
+    }
+
+-- a block's bytes are within the program
+pub block-within : (p : Progress) (m : ℕ) → Loaded p m → placeOf (p .block) + countIn (p .size) (p .block) ≤ m
+block-within p m l =
+    let k : p .block < (p .size + 126) / 127 = l .due in
+    let f : p .size ≤ m = l .fits in
+    let d : (p .size + 126) / 127 * 127 ≤ p .size + 126 = omega arith in
+    omega arith
+
+-- only while loading is a block asked for
+pub no-block : (c n : ℕ) → actionWaiting c n ≡ action.TakeBlock → ⊥
+no-block c n = go (eqb c 0x01) (eqb c 0x08) (eqb c 0x03) (eqb n 1) (eqb n 128)
+  where
+    go : (x y z t u : Bool)
+        → cond x (cond t action.AnswerName action.StopLength) (cond y (cond t action.AnswerUdi action.StopLength) (cond z (cond u action.TakeLoad action.StopLength) action.StopCommand)) ≡ action.TakeBlock
+        → ⊥
+    go true y z true u e = impossible cc
+    go true y z false u e = impossible cc
+    go false true z true u e = impossible cc
+    go false true z false u e = impossible cc
+    go false false true t true e = impossible cc
+    go false false true t false e = impossible cc
+    go false false false t u e = impossible cc
+
+pub block-loading : (ph : Phase) (c n : ℕ) (p : Progress) (m : ℕ) → actionIn ph c n ≡ action.TakeBlock → progressIn ph p m ≡ true → loadingOk p m ≡ true
+block-loading Loading c n p m e r = r
+block-loading Waiting c n p m e r = absurd (no-block c n e)
+block-loading Started c n p m e r = impossible cc
+block-loading Stopped c n p m e r = impossible cc
+
+-- the parts of the range
+pub record InRange (s : State) : Type 0 where
+  pub ram-some : 1 ≤ s .config .«ram_len»
+  pub ram-small : s .config .«ram_len» ≤ 131072
+  pub incoming : incomingOk (s .incoming) ≡ true
+  pub progress : progressOk (s .progress) (s .config .«ram_len») ≡ true
+
+pub range-facts : (s : State) → inRange s ≡ true → InRange s
+unfolding inRange
+range-facts s e =
+    let a = and-eq-true-iff (ramOk (s .config .«ram_len»)) _ .0 e in
+    let b = and-eq-true-iff (leb 1 (s .config .«ram_len»)) _ .0 (a .0) in
+    let d = and-eq-true-iff (incomingOk (s .incoming)) _ .0 (a .1) in
+    record {
+      ram-some = leb-true 1 (s .config .«ram_len») (b .0);
+      ram-small = leb-true (s .config .«ram_len») 131072 (b .1);
+      incoming = d .0;
+      progress = d .1;
+    }

@@ -1,0 +1,20 @@
+-- What the reader of headers gives.
+use borrow.Author.Needs.{needs}
+use Rattle.head.proofs.states.body_len.Statement.{statement}
+use Rattle.head.proofs.states.body_len.Tie as tie
+
+returns : tie.Need-returns
+returns c = rw (← (c .before .before .before .read-header .ensures), c .before .len .given .1)
+
+returns-2 : tie.Need-returns-2
+returns-2 c = rw (← (c .before .before .read-header .ensures), c .enum-told .given .1)
+
+pub body-len-spec : {M : Type 1} → statement M
+body-len-spec =
+    tie.close
+    (tie.spec
+    (λ c κs. search needs)
+    (λ c. search needs)
+    (λ c. search needs)
+    returns
+    returns-2)

@@ -1,0 +1,70 @@
+-- What a call reports: document 01, "Numbers of refused calls and of stops".
+use Prim.Native.Nat.{ℕ}
+use mathlib.Core.List.{List}
+use Rattle.head.specs.declared.Refusal.{Refusal}
+use Rattle.head.specs.declared.Refusal.the-variants.{StateRange, Ended, ReplyRoom, RamLength, SecretLength, RecordLength, RamSize}
+use Rattle.head.specs.declared.Stop.{Stop}
+use Rattle.head.specs.declared.Stop.the-variants.{UnknownType, NoFlash, HeaderBit, Command, BodyLength, Digest}
+use Rattle.head.specs.declared.Answer.{Answer}
+use Rattle.head.specs.declared.Answer.the-variants.{Refused, Continue, Stopped, Started}
+use Rattle.head.specs.declared.State.{State}
+use Rattle.head.specs.declared.Received.{Received}
+
+-- the number of each refusal and of each stop
+abbrev pub refusalNumber : Refusal → ℕ
+refusalNumber StateRange = 1
+refusalNumber Ended = 2
+refusalNumber ReplyRoom = 3
+refusalNumber RamLength = 4
+refusalNumber SecretLength = 5
+refusalNumber RecordLength = 6
+refusalNumber RamSize = 7
+
+abbrev pub stopNumber : Stop → ℕ
+stopNumber UnknownType = 20
+stopNumber NoFlash = 21
+stopNumber HeaderBit = 22
+stopNumber Command = 23
+stopNumber BodyLength = 24
+stopNumber Digest = 25
+
+pub data Report : Type 0 where
+  -- the number of the refusal
+  refused : ℕ → Report
+  -- the record or the byte is taken, and the session goes on
+  continues : Report
+  -- the number of the stop
+  stopped : ℕ → Report
+  -- the program's address and size
+  started : ℕ → ℕ → Report
+
+abbrev pub reportOf : Answer → Report
+reportOf (Refused r) = refused (refusalNumber r)
+reportOf Continue = continues
+reportOf (Stopped s) = stopped (stopNumber s)
+reportOf (Started address size) = started address size
+
+-- all that receiving a byte settles: the report, how many bytes of the room are a reply, the next state, CDI and digest, and what the lent memory then
+-- holds
+pub record Outcome : Type 0 where
+  pub report : Report
+  pub reply : ℕ
+  pub state : State
+  pub cdi : List ℕ
+  pub digest : List ℕ
+  pub room : List ℕ
+  pub ram : List ℕ
+  pub uds : List ℕ
+
+abbrev pub outcome : Received → List ℕ → List ℕ → List ℕ → Outcome
+outcome r room ram uds =
+    record {
+      report = reportOf (r .answer);
+      reply = r .reply;
+      state = r .state;
+      cdi = r .cdi;
+      digest = r .digest;
+      room = room;
+      ram = ram;
+      uds = uds;
+    }

@@ -1,0 +1,6 @@
+pub mod State
+pub mod Answers
+pub mod Begin
+pub mod Machine
+pub mod Theorems
+pub mod KnownAnswers

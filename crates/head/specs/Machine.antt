@@ -1,0 +1,218 @@
+-- What a byte does: document 01, "Header byte", "Commands and replies" and the table of refused calls.
+use Prim.Native.Nat.{ℕ, _+_, _-_}
+use mathlib.Core.Bool.{Bool, true, not, cond}
+use mathlib.Core.List.{List, [], _∷_}
+use lib.Dec.{eqb, ltb}
+use lib.ListN.{length, take, set}
+use lib.Seq.{paste}
+use Rattle.framing.specs.Header.{Reading, good, stop, headerAt}
+use Rattle.rfc7693.specs.Rfc7693.{blake2s}
+use Rattle.endian.specs.Endian.{bytes}
+use Rattle.cdi.specs.Cdi.{cdiOf}
+use Rattle.protocol.specs.Commands.{firmware, commandIn, loadIn, goodLoad, usesUss, carriedBy, placeOf, countIn, isLast}
+use Rattle.protocol.specs.Replies.{sent, putIn, nameReply, udiReply, loadReply, blockReply, digestReply}
+use Rattle.protocol.specs.declared.Load.{Load}
+use Rattle.protocol.specs.declared.Reply.{Reply}
+use Rattle.endian.specs.Lists.{zeros}
+use Rattle.head.specs.State.{same, bodyLen, inRange, live, idle, ended}
+use Rattle.head.specs.Answers.{Report, refused, continues, stopped, started, Outcome}
+use Rattle.head.specs.declared.Phase.{Phase}
+use Rattle.head.specs.declared.Phase.the-variants as phase
+use Rattle.head.specs.declared.Incoming.{Incoming}
+use Rattle.head.specs.declared.Config.{Config}
+use Rattle.head.specs.declared.Progress.{Progress}
+use Rattle.head.specs.declared.State.{State}
+use Rattle.head.specs.declared.Step.{Step}
+use Rattle.head.specs.declared.Step.the-variants.{More, Whole, Bad}
+use Rattle.head.specs.declared.Gathered.{Gathered}
+use Rattle.head.specs.declared.Action.{Action}
+use Rattle.head.specs.declared.Action.the-variants as action
+
+-- ---- gathering: "Header byte"
+
+-- a header: a set bit 7 or bit 2 stops the head, for every endpoint
+abbrev pub opened : Reading → Incoming → ℕ → Gathered
+opened (good id ep n) i b = record { step = More; incoming = record { header = b; got = 1; body = i .body } }
+opened (stop k) i b = record { step = Bad; incoming = i }
+
+-- with a byte of its body: only that of a frame for the firmware is kept
+abbrev pub withByte : Incoming → ℕ → ℕ → Incoming
+withByte i ep b = record { header = i .header; got = i .got + 1; body = cond (eqb ep firmware) (set (i .body) (i .got - 1) b) (i .body) }
+
+-- a frame is whole with the last byte of its body; one for another endpoint is passed over
+abbrev pub inBody : Incoming → ℕ → ℕ → ℕ → Gathered
+inBody i ep n b =
+    cond (ltb (i .got) n) (record { step = More; incoming = withByte i ep b })
+    (cond (eqb ep firmware) (record { step = Whole; incoming = withByte i ep b })
+    (record { step = More; incoming = idle }))
+
+-- no state in range has a bad header here
+abbrev pub continued : Reading → Incoming → ℕ → Gathered
+continued (good id ep n) i b = inBody i ep n b
+continued (stop k) i b = record { step = Bad; incoming = i }
+
+unfoldable pub gathered : Incoming → ℕ → Gathered
+gathered i b = cond (eqb (i .got) 0) (opened (headerAt b) i b) (continued (headerAt (i .header)) i b)
+
+-- ---- what a whole frame asks for: the table of commands
+
+-- stop 24 is a wrong body length
+abbrev pub sized : ℕ → ℕ → Action → Action
+sized wanted n d = cond (eqb n wanted) d action.StopLength
+
+-- by the command byte and the body's length; stop 23 is a command that is not allowed, unknown ones included
+abbrev pub actionWaiting : ℕ → ℕ → Action
+actionWaiting c n =
+    cond (eqb c 0x01) (sized 1 n action.AnswerName)
+    (cond (eqb c 0x08) (sized 1 n action.AnswerUdi)
+    (cond (eqb c 0x03) (sized 128 n action.TakeLoad) action.StopCommand))
+
+abbrev pub actionLoading : ℕ → ℕ → Action
+actionLoading c n = cond (eqb c 0x05) (sized 128 n action.TakeBlock) action.StopCommand
+
+abbrev pub actionIn : Phase → ℕ → ℕ → Action
+actionIn phase.Waiting c n = actionWaiting c n
+actionIn phase.Loading c n = actionLoading c n
+actionIn phase.Started c n = action.StopCommand
+actionIn phase.Stopped c n = action.StopCommand
+
+-- the bytes of the frame that was gathered
+abbrev pub frameIn : State → List ℕ
+frameIn s = s .incoming .header ∷ s .incoming .body
+
+abbrev pub actionOf : State → Action
+actionOf s = actionIn (s .progress .phase) (commandIn (frameIn s)) (bodyLen (headerAt (s .incoming .header)))
+
+-- ---- what is then done: "Commands and replies"
+
+-- an outcome with neither CDI nor digest
+abbrev pub plain : Report → ℕ → State → List ℕ → List ℕ → List ℕ → Outcome
+plain report reply s room ram uds =
+    record { report = report; reply = reply; state = s; cdi = zeros 32; digest = zeros 32; room = room; ram = ram; uds = uds }
+
+-- stop k, without a reply
+abbrev pub stopping : ℕ → State → List ℕ → List ℕ → List ℕ → Outcome
+stopping k s room ram uds = plain (stopped k) 0 (ended phase.Stopped (s .config .«ram_len»)) room ram uds
+
+-- a reply, after which the session goes on
+abbrev pub replying : Reply → State → List ℕ → List ℕ → List ℕ → Outcome
+replying r s room ram uds = plain continues (r .len + 1) s (putIn room (sent r)) ram uds
+
+-- the state between frames
+abbrev pub between : State → Progress → State
+between s p = record { incoming = idle; config = s .config; progress = p }
+
+-- the load that the frame is, and whether it is taken
+abbrev pub loadOf : State → Load
+loadOf s = loadIn (frameIn s)
+
+abbrev pub takes : State → Bool
+takes s = goodLoad (s .config .«ram_len») (loadOf s)
+
+-- a load that is not taken gets status 1, and the head goes on waiting
+unfoldable pub loadAnswer : State → Reply
+loadAnswer s = loadReply (s .incoming .header) (takes s)
+
+-- a load that is taken: the head is then loading
+abbrev pub loaded : Load → Progress
+loaded l = record { phase = phase.Loading; size = l .size; block = 0; «uss_used» = usesUss l; uss = l .uss }
+
+unfoldable pub afterLoad : State → Progress
+afterLoad s = cond (takes s) (loaded (loadOf s)) (s .progress)
+
+-- RAM after block k of a program of n bytes: only bytes below n are stored
+abbrev pub storedIn : List ℕ → List ℕ → ℕ → ℕ → List ℕ
+storedIn ram f n k = paste ram (placeOf k) (carriedBy f) (countIn n k)
+
+abbrev pub nextBlock : Progress → Progress
+nextBlock p = record { phase = p .phase; size = p .size; block = p .block + 1; «uss_used» = p .«uss_used»; uss = p .uss }
+
+-- type 5 compares the digest with the record's, type 4 does not
+abbrev pub allowed : Config → List ℕ → Bool
+allowed c d = cond (c .verify) (same d (c .required)) true
+
+-- the CDI of a start
+abbrev pub cdiAt : State → List ℕ → List ℕ → List ℕ
+cdiAt s d uds = cdiOf (bytes uds) (s .config .chained) (s .config .«measured_id») d (s .progress .«uss_used») (s .progress .uss)
+
+-- a start gives the CDI, the digest d, the address and the size; each word of the UDS is then zero
+unfoldable pub starting : List ℕ → State → List ℕ → List ℕ → List ℕ → Outcome
+starting d s room ram uds =
+    record {
+      report = started 0x40000000 (s .progress .size);
+      reply = 129;
+      state = ended phase.Started (s .config .«ram_len»);
+      cdi = cdiAt s d uds;
+      digest = d;
+      room = room;
+      ram = ram;
+      uds = zeros 8;
+    }
+
+-- the program has the digest d: the last reply is written, and then the head starts, or stops with 25
+unfoldable pub finishedWith : List ℕ → State → List ℕ → List ℕ → List ℕ → Outcome
+finishedWith d s room ram uds =
+    let room1 = putIn room (sent (digestReply (s .incoming .header) d)) in
+    cond (allowed (s .config) d)
+    (starting d s room1 ram uds)
+    (plain (stopped 25) 129 (ended phase.Stopped (s .config .«ram_len»)) room1 ram uds)
+
+-- the first n bytes of RAM are measured
+abbrev pub finished : State → List ℕ → List ℕ → List ℕ → Outcome
+finished s room ram uds = finishedWith (blake2s [] (take (s .progress .size) ram) 32) s room ram uds
+
+unfoldable pub actedBlock : State → List ℕ → List ℕ → List ℕ → Outcome
+actedBlock s room ram uds =
+    let n = s .progress .size in
+    let k = s .progress .block in
+    let ram1 = storedIn ram (frameIn s) n k in
+    cond (isLast n k)
+    (finished s room ram1 uds)
+    (replying (blockReply (s .incoming .header)) (between s (nextBlock (s .progress))) room ram1 uds)
+
+abbrev pub performed : Action → State → List ℕ → List ℕ → List ℕ → Outcome
+performed action.AnswerName s room ram uds = replying (nameReply (s .incoming .header)) (between s (s .progress)) room ram uds
+performed action.AnswerUdi s room ram uds = replying (udiReply (s .incoming .header) (s .config .udi)) (between s (s .progress)) room ram uds
+performed action.TakeLoad s room ram uds = replying (loadAnswer s) (between s (afterLoad s)) room ram uds
+performed action.TakeBlock s room ram uds = actedBlock s room ram uds
+performed action.StopCommand s room ram uds = stopping 23 s room ram uds
+performed action.StopLength s room ram uds = stopping 24 s room ram uds
+
+-- a whole frame for the firmware
+unfoldable pub acted : State → List ℕ → List ℕ → List ℕ → Outcome
+acted s room ram uds = performed (actionOf s) s room ram uds
+
+-- ---- a call: "Numbers of refused calls and of stops"
+
+-- the lowest refusal that applies, 0 for none; what is lent is given by its lengths
+unfoldable pub refusal : State → ℕ → ℕ → ℕ → ℕ
+refusal s room ram uds =
+    cond (not (inRange s)) 1
+    (cond (not (live (s .progress .phase))) 2
+    (cond (ltb room 129) 3
+    (cond (not (eqb ram (s .config .«ram_len»))) 4
+    (cond (not (eqb uds 8)) 5 0))))
+
+abbrev pub withIncoming : State → Incoming → State
+withIncoming s i = record { incoming = i; config = s .config; progress = s .progress }
+
+abbrev pub afterByte : Step → State → List ℕ → List ℕ → List ℕ → Outcome
+afterByte More s room ram uds = plain continues 0 s room ram uds
+afterByte Bad s room ram uds = stopping 22 s room ram uds
+afterByte Whole s room ram uds = acted s room ram uds
+
+-- a byte of a call that is not refused
+unfoldable pub processed : State → ℕ → List ℕ → List ℕ → List ℕ → Outcome
+processed s b room ram uds =
+    let g = gathered (s .incoming) b in
+    afterByte (g .step) (withIncoming s (g .incoming)) room ram uds
+
+-- a refused call changes nothing
+abbrev pub refusing : ℕ → State → List ℕ → List ℕ → List ℕ → Outcome
+refusing k s room ram uds = plain (refused k) 0 s room ram uds
+
+-- document 01's hearing
+unfoldable pub step : State → ℕ → List ℕ → List ℕ → List ℕ → Outcome
+step s b room ram uds =
+    let k = refusal s (length room) (length ram) (length uds) in
+    cond (eqb k 0) (processed s b room ram uds) (refusing k s room ram uds)

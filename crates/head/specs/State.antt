@@ -1,0 +1,74 @@
+-- The state of a head between two bytes, and the range of each field: refusal 1 of document 01, docs/STATES.md.
+use Prim.Native.Nat.{ℕ}
+use mathlib.Core.Bool.{Bool, true, false, not, cond, _&&_}
+use mathlib.Core.List.{List, [], _∷_}
+use lib.Dec.{eqb, leb, ltb}
+use Rattle.endian.specs.Lists.{zeros}
+use Rattle.framing.specs.Header.{Reading, good, stop, headerAt}
+use Rattle.protocol.specs.Commands.{blocksFor}
+use Rattle.head.specs.declared.Phase.{Phase}
+use Rattle.head.specs.declared.Phase.the-variants.{Waiting, Loading, Started, Stopped}
+use Rattle.head.specs.declared.Incoming.{Incoming}
+use Rattle.head.specs.declared.Progress.{Progress}
+use Rattle.head.specs.declared.State.{State}
+
+-- whether two lists hold the same bytes
+abbrev pub same : List ℕ → List ℕ → Bool
+same [] [] = true
+same [] (y ∷ ys) = false
+same (x ∷ xs) [] = false
+same (x ∷ xs) (y ∷ ys) = eqb x y && same xs ys
+
+-- the body's length that a header gives; 0 for a bad one
+abbrev pub bodyLen : Reading → ℕ
+bodyLen (good id ep n) = n
+bodyLen (stop k) = 0
+
+-- between frames header and got are 0; in a frame the header is good, and got, which counts it, is at most its body's length
+abbrev pub incomingOk : Incoming → Bool
+incomingOk i = cond (eqb (i .got) 0) (eqb (i .header) 0) (leb (i .got) (bodyLen (headerAt (i .header))))
+
+-- while waiting nothing of a load is there
+abbrev pub waitingOk : Progress → Bool
+waitingOk p = eqb (p .size) 0 && (eqb (p .block) 0 && (not (p .«uss_used») && same (p .uss) (zeros 32)))
+
+-- while loading the size is good for a RAM of m bytes, and the block is one of the program's
+abbrev pub loadingOk : Progress → ℕ → Bool
+loadingOk p m = leb 1 (p .size) && (leb (p .size) m && ltb (p .block) (blocksFor (p .size)))
+
+abbrev pub progressIn : Phase → Progress → ℕ → Bool
+progressIn Waiting p m = waitingOk p
+progressIn Loading p m = loadingOk p m
+progressIn Started p m = true
+progressIn Stopped p m = true
+
+abbrev pub progressOk : Progress → ℕ → Bool
+progressOk p m = progressIn (p .phase) p m
+
+-- RAM has 1 to 131,072 bytes
+abbrev pub ramOk : ℕ → Bool
+ramOk m = leb 1 m && leb m 131072
+
+-- each field is in its range
+unfoldable pub inRange : State → Bool
+inRange s = ramOk (s .config .«ram_len») && (incomingOk (s .incoming) && progressOk (s .progress) (s .config .«ram_len»))
+
+-- the head has neither started nor stopped
+abbrev pub live : Phase → Bool
+live Waiting = true
+live Loading = true
+live Started = false
+live Stopped = false
+
+-- no frame is being gathered
+abbrev pub idle : Incoming
+idle = record { header = 0; got = 0; body = zeros 128 }
+
+-- the state after a start or a stop: the phase and the RAM's length, and zeros
+unfoldable pub ended : Phase → ℕ → State
+ended p m =
+    record {
+      incoming = idle;
+      config = record { «ram_len» = m; verify = false; required = zeros 32; chained = false; «measured_id» = zeros 32; udi = zeros 8 };
+      progress = record { phase = p; size = 0; block = 0; «uss_used» = false; uss = zeros 32 };
+    }

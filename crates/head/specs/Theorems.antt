@@ -1,0 +1,133 @@
+-- What is proved about a call, besides the promises of `begin` and `receive`. The proof is `head-theorems` in proofs/Proved.antt.
+use Prim.Native.Nat.{ℕ, _+_, _≤_}
+use mathlib.Core.Path.{_≡_}
+use mathlib.Core.Logic.{_↔_}
+use mathlib.Core.Bool.{true, cond}
+use mathlib.Core.List.{List, [], _∷_}
+use lib.Dec.{eqb}
+use lib.ListN.{length, take, drop}
+use lib.Seq.{paste}
+use Rattle.framing.specs.Header.{good, headerAt}
+use Rattle.protocol.specs.Commands.{placeOf, countIn}
+use Rattle.endian.specs.Lists.{zeros}
+use Rattle.head.specs.State.{inRange, live, idle, ended}
+use Rattle.head.specs.Answers.{refused, continues, stopped, started, reportOf, Outcome}
+use Rattle.head.specs.Begin.{beginning}
+use Rattle.head.specs.Machine.{gathered, refusal, refusing, step}
+use Rattle.head.specs.declared.Phase.the-variants as phase
+use Rattle.head.specs.declared.Incoming.{Incoming}
+use Rattle.head.specs.declared.State.{State}
+use Rattle.head.specs.declared.Answer.{Answer}
+use Rattle.head.specs.declared.Step.{Step}
+use Rattle.head.specs.declared.Step.the-variants.{More, Whole, Bad}
+use Rattle.head.specs.declared.Gathered.{Gathered}
+
+-- bytes gathered one after the other, until a frame is whole or a header is bad
+abbrev pub gatheredOn : List ℕ → Step → Incoming → Gathered
+gatheredOn [] k i = record { step = k; incoming = i }
+gatheredOn (b ∷ bs) More i = gatheredOn bs (gathered i b .step) (gathered i b .incoming)
+gatheredOn (b ∷ bs) Whole i = record { step = Whole; incoming = i }
+gatheredOn (b ∷ bs) Bad i = record { step = Bad; incoming = i }
+
+abbrev pub gatheredAll : Incoming → List ℕ → Gathered
+gatheredAll i bs = gatheredOn bs More i
+
+-- x is y but for the bytes of the block that the state waits for; while it waits for a load these are none, and x is y
+abbrev pub SameButBlock : State → List ℕ → List ℕ → Type 0
+SameButBlock s x y =
+    let place = placeOf (s .progress .block) in
+    let end = place + countIn (s .progress .size) (s .progress .block) in
+    (length x ≡ length y) × (take place x ≡ take place y) × (drop end x ≡ drop end y)
+
+-- an outcome with other words for the UDS
+abbrev pub withUds : Outcome → List ℕ → Outcome
+withUds o uds =
+    record {
+      report = o .report;
+      reply = o .reply;
+      state = o .state;
+      cdi = o .cdi;
+      digest = o .digest;
+      room = o .room;
+      ram = o .ram;
+      uds = uds;
+    }
+
+-- and with another CDI
+abbrev pub withCdi : Outcome → List ℕ → Outcome
+withCdi o cdi =
+    record {
+      report = o .report;
+      reply = o .reply;
+      state = o .state;
+      cdi = cdi;
+      digest = o .digest;
+      room = o .room;
+      ram = o .ram;
+      uds = o .uds;
+    }
+
+-- a call on any state, in range or not, with any byte and anything lent
+module _ (s : State) (b : ℕ) (room ram uds : List ℕ) where
+  -- the number that the call is refused with, 0 for none
+  abbrev pub refusalDue : ℕ
+  refusalDue = refusal s (length room) (length ram) (length uds)
+
+  -- what the call leads to
+  abbrev pub after : Outcome
+  after = step s b room ram uds
+
+  pub record CallProperties : Type 0 where
+    -- a state in range stays in range
+    pub stays : inRange s ≡ true → inRange (after .state) ≡ true
+    -- a call answers the number of a refusal exactly when that is the number of its state and of what is lent; it then returns what it was
+    -- given
+    pub refuses : (k : ℕ) → (after .report ≡ refused k) ↔ ((k ≡ refusalDue) × (k ≡ 0 → ⊥))
+    pub kept : (k : ℕ) → after .report ≡ refused k → after ≡ refusing k s room ram uds
+    -- a reply has at most 129 bytes, and beyond it the room is as it was
+    pub fits : after .reply ≤ 129
+    pub beyond : drop (after .reply) (after .room) ≡ drop (after .reply) room
+    -- only the block's bytes of RAM are written, and those only by a call that replies; that the gathered body has 128 bytes is its type in
+    -- the code
+    pub beyond-block : length (s .incoming .body) ≡ 128 → SameButBlock s (after .ram) ram
+    pub without-reply : after .reply ≡ 0 → after .ram ≡ ram
+    -- while the session goes on, what begin fixed and the UDS stay, and neither CDI nor digest is given
+    pub goes-on : after .report ≡ continues
+        → (after .state .config ≡ s .config) × (after .uds ≡ uds)
+        × (after .cdi ≡ zeros 32) × (after .digest ≡ zeros 32)
+    -- and it has neither started nor stopped
+    pub lives : after .report ≡ continues → live (after .state .progress .phase) ≡ true
+    -- after a stop the state is the one of an end and the UDS stays; only 25 has a reply, and only it comes after RAM was written
+    pub stops : (k : ℕ) → after .report ≡ stopped k
+        → (after .state ≡ ended phase.Stopped (s .config .«ram_len»)) × (after .uds ≡ uds)
+        × (after .cdi ≡ zeros 32) × (after .digest ≡ zeros 32)
+        × (after .reply ≡ cond (eqb k 25) 129 0)
+        × ((k ≡ 25 → ⊥) → (after .room ≡ room) × (after .ram ≡ ram))
+    -- after a start the state is the one of an end, and each word of the UDS is zero
+    pub starts : (address size : ℕ) → after .report ≡ started address size
+        → (address ≡ 0x40000000) × (size ≡ s .progress .size) × (after .state ≡ ended phase.Started (s .config .«ram_len»))
+        × (after .uds ≡ zeros 8) × (after .reply ≡ 129)
+    -- only a start depends on the UDS (document 01: it is read only at a start): a call that answers none leaves its words, and does the same
+    -- with any others, if they are as many; with others a start may give another CDI, and all else is the same
+    pub secret : ((address size : ℕ) → after .report ≡ started address size → ⊥)
+        → (after .uds ≡ uds) × ((other : List ℕ) → length other ≡ length uds → step s b room ram other ≡ withUds after other)
+    pub identity : (address size : ℕ) → after .report ≡ started address size
+        → (other : List ℕ) → length other ≡ length uds → step s b room ram other ≡ withCdi after (step s b room ram other .cdi)
+
+pub record HeadTheorems : Type 0 where
+  -- the reported number and values settle the answer
+  pub answers : (x y : Answer) → reportOf x ≡ reportOf y → x ≡ y
+  pub call : (s : State) (b : ℕ) (room ram uds : List ℕ) → CallProperties s b room ram uds
+  -- every state that begin hands back is in range; after a refusal or a stop every call on it is refused with 2
+  pub begun : (bytes udi : List ℕ) (m : ℕ) → inRange (beginning bytes udi m .state) ≡ true
+  pub no-session : (bytes udi : List ℕ) (m : ℕ) → (beginning bytes udi m .report ≡ continues → ⊥) → (b : ℕ) (room ram uds : List ℕ)
+      → step (beginning bytes udi m .state) b room ram uds ≡ refusing 2 (beginning bytes udi m .state) room ram uds
+  -- a good frame gathered from its header to its last byte: one for the firmware is whole, with its body at the front of the gathered bytes; one
+  -- for another endpoint leaves nothing
+  pub frame : (i : Incoming) (h id ep n : ℕ) (body : List ℕ) → i .got ≡ 0 → length (i .body) ≡ 128 → headerAt h ≡ good id ep n → length body ≡ n
+      → gatheredAll i (h ∷ body)
+      ≡ cond (eqb ep 2) (record { step = Whole; incoming = record { header = h; got = n + 1; body = paste (i .body) 0 body n } })
+      (record { step = More; incoming = idle })
+  -- in the body of a frame for another endpoint it makes no difference what the byte is: none enters state, replies or RAM
+  pub passed-over : (s : State) (b b' : ℕ) (room ram uds : List ℕ) (id ep n : ℕ) → (s .incoming .got ≡ 0 → ⊥)
+      → headerAt (s .incoming .header) ≡ good id ep n → (ep ≡ 2 → ⊥) → step s b room ram uds ≡ step s b' room ram uds

@@ -1,0 +1,183 @@
+// A head as a state that bytes change: the types of the state and of the answers, what each byte does (specs/), what is proved of that, and
+// the code that goes by the state alone. `loader` has the calls.
+// Document 01 in the terms of specs/: State (the state and its ranges), Answers (the paper's numbers), Begin, Machine (what each byte does);
+// the theorems are Theorems and KnownAnswers.
+mod commands;
+mod states;
+
+ghost use mathlib.Core.Path.{_≡_};
+ghost use Rattle.head.specs.Answers.{refusalNumber, stopNumber};
+pub use commands::decide;
+pub use states::ended;
+pub use states::equal;
+pub use states::idle;
+pub use states::in_range;
+pub use states::is_live;
+pub use states::ram_ok;
+
+// Where a session stands.
+pub enum Phase {
+    // Queries are answered, and a load is waited for.
+    Waiting,
+    // A load was taken, and its blocks come.
+    Loading,
+    Started,
+    Stopped,
+}
+
+// The frame that is being gathered.
+pub struct Incoming {
+    pub header: u8,
+    // How many of its bytes have come, the header among them; 0 between frames.
+    pub got: u8,
+    // Its body, if it is for the firmware.
+    pub body: [u8; 128],
+}
+
+// What begin fixed.
+pub struct Config {
+    pub ram_len: usize,
+    // Whether the program must have the required digest.
+    pub verify: bool,
+    pub required: [u8; 32],
+    // Whether the measurement is measured_id (RESET_SEED), and not the program's digest.
+    pub chained: bool,
+    pub measured_id: [u8; 32],
+    pub udi: [u8; 8],
+}
+
+// How far the load is.
+pub struct Progress {
+    pub phase: Phase,
+    // The program's size.
+    pub size: u32,
+    // The number of the block that is waited for.
+    pub block: u32,
+    pub uss_used: bool,
+    pub uss: [u8; 32],
+}
+
+pub struct State {
+    pub incoming: Incoming,
+    pub config: Config,
+    pub progress: Progress,
+}
+
+// Why a call was refused: document 01's refusals 1 to 7. Begin gives the last two, `receive` the others.
+pub enum Refusal {
+    // A field of the state is out of its range.
+    StateRange,
+    // The head has started or stopped.
+    Ended,
+    // The reply room has under 129 bytes.
+    ReplyRoom,
+    // RAM is not as long as at begin.
+    RamLength,
+    // The device secret is not eight words.
+    SecretLength,
+    // The reset record has not 256 bytes.
+    RecordLength,
+    // RAM has no byte, or over 131,072.
+    RamSize,
+}
+
+// Why the head stopped: document 01's stops 20 to 25. Begin gives the first two, `receive` the others.
+pub enum Stop {
+    // The record's type is 6 or above.
+    UnknownType,
+    // The record's type is 0 to 3, and no flash is fitted.
+    NoFlash,
+    // Bit 7 or bit 2 of a header is set.
+    HeaderBit,
+    // The command is not allowed in this phase, or unknown.
+    Command,
+    // The command has another body length.
+    BodyLength,
+    // The program has not the required digest.
+    Digest,
+}
+
+// What a call answers.
+pub enum Answer {
+    // Nothing has changed.
+    Refused(Refusal),
+    // The record or the byte is taken, and the session goes on.
+    Continue,
+    Stopped(Stop),
+    // The program of this size at the front of RAM is to run, from this address.
+    Started { address: u32, size: u32 },
+}
+
+// What begin gives back.
+pub struct Begun {
+    pub answer: Answer,
+    pub state: State,
+}
+
+// What receiving a byte gives back.
+pub struct Received {
+    pub answer: Answer,
+    // How many bytes at the front of the reply room are a reply: 0 for none.
+    pub reply: usize,
+    // The CDI and the program's digest at a start; otherwise zeros.
+    pub cdi: [u8; 32],
+    pub digest: [u8; 32],
+    pub state: State,
+}
+
+// What a gathered byte leads to.
+pub enum Step {
+    // A header, a byte of an unfinished body, or the last byte of a frame for another endpoint.
+    More,
+    // The last byte of a frame for the firmware.
+    Whole,
+    // A header with bit 7 or bit 2 set.
+    Bad,
+}
+
+// A byte gathered.
+pub struct Gathered {
+    pub step: Step,
+    pub incoming: Incoming,
+}
+
+// What is done with a whole frame.
+pub enum Action {
+    AnswerName,
+    AnswerUdi,
+    TakeLoad,
+    TakeBlock,
+    // The command is not allowed in this phase, or unknown.
+    StopCommand,
+    // The command has another body length.
+    StopLength,
+}
+
+// The number that document 01 gives a refusal.
+pub fn refusal_number(r: Refusal) -> u8
+    ensures { λ x. ⌜ x ≡ refusalNumber r ⌝ }
+{
+    match r {
+        Refusal::StateRange => 1,
+        Refusal::Ended => 2,
+        Refusal::ReplyRoom => 3,
+        Refusal::RamLength => 4,
+        Refusal::SecretLength => 5,
+        Refusal::RecordLength => 6,
+        Refusal::RamSize => 7,
+    }
+}
+
+// The number that document 01 gives a stop.
+pub fn stop_number(s: Stop) -> u8
+    ensures { λ x. ⌜ x ≡ stopNumber s ⌝ }
+{
+    match s {
+        Stop::UnknownType => 20,
+        Stop::NoFlash => 21,
+        Stop::HeaderBit => 22,
+        Stop::Command => 23,
+        Stop::BodyLength => 24,
+        Stop::Digest => 25,
+    }
+}

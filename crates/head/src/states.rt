@@ -1,0 +1,154 @@
+// The state: the range of each field (docs/STATES.md), and what it is after a start or a stop.
+ghost use mathlib.Core.Path.{_≡_};
+ghost use Rattle.framing.specs.Header.{headerAt};
+ghost use Rattle.head.specs.State.{same, bodyLen, incomingOk, waitingOk, loadingOk, progressOk, ramOk, inRange, live, ended, idle};
+use super::Config;
+use super::Incoming;
+use super::Phase;
+use super::Progress;
+use super::State;
+use framing::Header;
+
+// Whether two slices hold the same bytes.
+pub fn equal(a: &[u8], b: &[u8]) -> bool
+    ensures { λ r. ⌜ r ≡ same (now (a .entry)) (now (b .entry)) ⌝ }
+{
+    check::same(a, b)
+}
+
+// The length of the body that a header gives; 0 for a bad header.
+pub fn body_len(header: u8) -> u8
+    ensures { λ r. ⌜ r ≡ bodyLen (headerAt header) ⌝ }
+{
+    match framing::read_header(header) {
+        Header::Good {
+            id: _,
+            endpoint: _,
+            len,
+        } => len,
+        Header::Bad => 0,
+    }
+}
+
+fn incoming_ok(i: Incoming) -> bool
+    ensures { λ r. ⌜ r ≡ incomingOk i ⌝ }
+{
+    if i.got == 0 {
+        return i.header == 0;
+    }
+    i.got <= body_len(i.header)
+}
+
+fn waiting_ok(p: Progress) -> bool
+    ensures { λ r. ⌜ r ≡ waitingOk p ⌝ }
+{
+    if p.size != 0 {
+        return false;
+    }
+    if p.block != 0 {
+        return false;
+    }
+    if p.uss_used {
+        return false;
+    }
+    let uss = p.uss;
+    let none = [0u8; 32];
+    equal(&uss, &none)
+}
+
+fn loading_ok(p: Progress, ram_len: usize) -> bool
+    ensures { λ r. ⌜ r ≡ loadingOk p «ram_len» ⌝ }
+{
+    let size = p.size as usize;
+    if size == 0 {
+        return false;
+    }
+    if ram_len < size {
+        return false;
+    }
+    (p.block as usize) < protocol::blocks_for(p.size)
+}
+
+fn progress_ok(p: Progress, ram_len: usize) -> bool
+    ensures { λ r. ⌜ r ≡ progressOk p «ram_len» ⌝ }
+{
+    let phase = p.phase;
+    match phase {
+        Phase::Waiting => waiting_ok(p),
+        Phase::Loading => loading_ok(p, ram_len),
+        Phase::Started => true,
+        Phase::Stopped => true,
+    }
+}
+
+// Whether RAM of this length can be lent.
+pub fn ram_ok(ram_len: usize) -> bool
+    ensures { λ r. ⌜ r ≡ ramOk «ram_len» ⌝ }
+{
+    if ram_len == 0 {
+        return false;
+    }
+    ram_len <= 131072
+}
+
+// Whether each field of the state is in its range.
+pub fn in_range(s: State) -> bool
+    ensures { λ r. ⌜ r ≡ inRange s ⌝ }
+{
+    let ram_len = s.config.ram_len;
+    if !ram_ok(ram_len) {
+        return false;
+    }
+    if !incoming_ok(s.incoming) {
+        return false;
+    }
+    progress_ok(s.progress, ram_len)
+}
+
+// Whether the session goes on: the head has neither started nor stopped.
+pub fn is_live(p: Progress) -> bool
+    ensures { λ r. ⌜ r ≡ live (p .phase) ⌝ }
+{
+    let phase = p.phase;
+    match phase {
+        Phase::Waiting => true,
+        Phase::Loading => true,
+        Phase::Started => false,
+        Phase::Stopped => false,
+    }
+}
+
+// No frame.
+pub fn idle() -> Incoming
+    ensures { λ r. ⌜ r ≡ idle ⌝ }
+{
+    Incoming {
+        header: 0,
+        got: 0,
+        body: [0; 128],
+    }
+}
+
+// The state after a start or a stop.
+pub fn ended(phase: Phase, ram_len: usize) -> State
+    ensures { λ r. ⌜ r ≡ ended phase «ram_len» ⌝ }
+{
+    State {
+        incoming: idle(),
+        config: Config {
+            ram_len,
+            verify: false,
+            required: [0; 32],
+            chained: false,
+            measured_id: [0; 32],
+            udi: [0; 8],
+        },
+        progress: Progress {
+            phase,
+            size: 0,
+            block: 0,
+            uss_used: false,
+            uss: [0; 32],
+        },
+    }
+}
