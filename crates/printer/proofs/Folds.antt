@@ -10,7 +10,7 @@ use lib.Seq.{take-append-seam, take-all}
 use borrow.Author.Tests.{ne-eqb, lt-ltb, le-ltb, ltb-true, ltb-false}
 use Rattle.head.specs.Answers.{Outcome}
 use Rattle.printer.specs.Lines.{waitingLine, errorLine, textOf}
-use Rattle.printer.specs.Output.{afterBegin, received, callText, outputFrom, output}
+use Rattle.printer.specs.Output.{afterBegin, afterReceive, callText, outputFrom, output}
 use Rattle.printer.specs.Turns.{turnOf, opening, loop, turns}
 
 -- what is written of a text is its lines
@@ -24,7 +24,7 @@ loop-is (b ∷ bytes) o n h =
     let e : eqb n (2 ^ 64 - 1) ≡ false = ne-eqb n (2 ^ 64 - 1) (λ z. omega arith) in
     let a : 296 + n + 1 ≡ 296 + (n + 1) = omega arith in
     let l : n + 1 + length bytes < 2 ^ 64 = omega arith in
-    rw (lines-of (callText o), e, a, loop-is bytes (received (o .state) (o .uds) (o .ram) b) (n + 1) l)
+    rw (lines-of (callText o), e, a, loop-is bytes (afterReceive (o .state) (o .uds) (o .ram) b) (n + 1) l)
 
 short : (input : List ℕ) (m : ℕ) → length input < 296 → turns input m ≡ output input m
 unfolding output opening

@@ -19,14 +19,14 @@ use Rattle.printer.specs.declared.turns.Turn.{Turn}
 pub turn-as : (r : Received) (room ram words : List ℕ) (o : Outcome) (n : ℕ) (text : Text) (over : Bool) → outcome r room ram words ≡ o
     → text ≡ textOf (replyText room (r .reply) ++ endLine (reportOf (r .answer)) (r .cdi)) → over ≡ isOver (reportOf (r .answer))
     → _≡_ {A = Turn}
-    (record { session = record { state = r .state; words = words; heard = n }; text = text; over = over })
+    (record { session = record { state = r .state; words = words; received = n }; text = text; over = over })
     (turnOf n o)
 turn-as r room ram words o n text over e et eo = rw (et, eo) (ap (turnOf n) e)
 
 pub turn-of-begin : (b : Begun) (front words : List ℕ) (m : ℕ) (text : Text) (over : Bool) → beginningOf b ≡ beginning (take 256 front) (drop 288 front) m
     → words ≡ wordsIn front → text ≡ textOf (endLine (reportOf (b .answer)) (zeros 32)) → over ≡ isOver (reportOf (b .answer))
     → _≡_ {A = Turn}
-    (record { session = record { state = b .state; words = words; heard = 0 }; text = text; over = over })
+    (record { session = record { state = b .state; words = words; received = 0 }; text = text; over = over })
     (beginTurn front m)
 unfolding afterBegin
 turn-of-begin b front words m text over e ew et eo =

@@ -1,5 +1,5 @@
 -- The whole output of a whole input: document 01, "Session printer". Standard input has 256 bytes of record, 32 of UDS and 8 of UDI, and
--- then the bytes that are heard.
+-- then the bytes that are received.
 use Prim.Native.Nat.{ℕ, _+_, _*_}
 use mathlib.Core.Bool.{Bool, true, false, cond}
 use mathlib.Core.List.{List, [], _∷_, _++_}
@@ -24,8 +24,8 @@ afterBegin front m =
     plain (b .report) 0 (b .state) [] (zeros m) (wordsIn front)
 
 -- a byte is received with a reply room of 129 zeros
-unfoldable pub received : State → List ℕ → List ℕ → ℕ → Outcome
-received s uds ram b = step s b (zeros 129) ram uds
+unfoldable pub afterReceive : State → List ℕ → List ℕ → ℕ → Outcome
+afterReceive s uds ram b = step s b (zeros 129) ram uds
 
 -- the line of a reply of n bytes; none for no reply
 abbrev pub replyText : List ℕ → ℕ → List ℕ
@@ -51,13 +51,13 @@ pub record Output : Type 0 where
 abbrev pub behind : List ℕ → Output → Output
 behind text x = record { printed = text ++ x .printed; read = x .read }
 
--- from the call o on, with which n bytes were heard: no byte is read after the end, and where the input ends first the last line says how many
--- were heard
+-- from the call o on, with which n bytes were received: no byte is read after the end, and where the input ends first the last line says how many
+-- were received
 abbrev pub outputFrom : Outcome → ℕ → List ℕ → Output
 outputFrom o n [] = record { printed = callText o ++ cond (isOver (o .report)) [] (waitingLine n); read = 296 + n }
 outputFrom o n (b ∷ bytes) =
     cond (isOver (o .report)) (record { printed = callText o; read = 296 + n })
-    (behind (callText o) (outputFrom (received (o .state) (o .uds) (o .ram) b) (n + 1) bytes))
+    (behind (callText o) (outputFrom (afterReceive (o .state) (o .uds) (o .ram) b) (n + 1) bytes))
 
 -- the output of a head with m bytes of RAM; an input under 296 bytes prints only `E 1`
 unfoldable pub output : List ℕ → ℕ → Output

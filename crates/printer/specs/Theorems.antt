@@ -40,7 +40,7 @@ pub record Printer : Type 0 where
       ++ ascii "R 1104000000\n"
       ++ ascii "R 1307004c76401a2032527062b60916f252f41b5e3d75a3fa50a6376b3aedb9f59d8c9a" ++ replicate 188 48 ++ ascii "\n"
       ++ ascii "S 1 cc8dc0a1d59dd1ea76ba0012c01125e71a4b873c0ff2e1ea1636e02f35b7b287\n") 556
-  -- type 0 stops at begin, and nothing is heard
+  -- type 0 stops at begin, and nothing is received
   pub stop-at-begin : output (zeros 296 ++ 0x10 ∷ 0x01 ∷ []) 32768 ≡ gives (ascii "F 21\n") 296
   -- the header 90
   pub stop-22 : output (front ++ 0x90 ∷ 0x10 ∷ 0x01 ∷ []) 32768 ≡ gives (ascii "F 22\n") 297

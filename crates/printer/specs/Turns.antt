@@ -8,17 +8,17 @@ use lib.ListN.{length, take, drop}
 use Rattle.endian.specs.Lists.{zeros, padded}
 use Rattle.head.specs.Answers.{Outcome}
 use Rattle.printer.specs.Lines.{waitingLine, errorLine, textOf}
-use Rattle.printer.specs.Output.{afterBegin, received, callText, isOver, Output, behind}
+use Rattle.printer.specs.Output.{afterBegin, afterReceive, callText, isOver, Output, behind}
 use Rattle.printer.specs.declared.turns.Session.{Session}
 use Rattle.printer.specs.declared.turns.Next.{Next}
 use Rattle.printer.specs.declared.turns.Next.the-variants.{Byte, End}
 use Rattle.printer.specs.declared.turns.Turn.{Turn}
 
--- the turn of a call, with which n bytes were heard
+-- the turn of a call, with which n bytes were received
 abbrev pub turnOf : ℕ → Outcome → Turn
 turnOf n o =
     record {
-      session = record { state = o .state; words = o .uds; heard = n };
+      session = record { state = o .state; words = o .uds; received = n };
       text = textOf (callText o);
       over = isOver (o .report);
     }
@@ -34,21 +34,21 @@ opening front got m =
 
 -- the input has ended
 abbrev pub waited : Session → Turn
-waited s = record { session = s; text = textOf (waitingLine (s .heard)); over = true }
+waited s = record { session = s; text = textOf (waitingLine (s .received)); over = true }
 
--- the count has 64 bits: a session that has heard 2^64 - 1 bytes ends as if the input did
+-- the count has 64 bits: a session that has received 2^64 - 1 bytes ends as if the input did
 abbrev pub isFull : Session → Bool
-isFull s = eqb (s .heard) (2 ^ 64 - 1)
+isFull s = eqb (s .received) (2 ^ 64 - 1)
 
 -- every other turn
 abbrev pub turned : Session → Next → List ℕ → Turn
 turned s End ram = waited s
-turned s (Byte b) ram = cond (isFull s) (waited s) (turnOf (s .heard + 1) (received (s .state) (s .words) ram b))
+turned s (Byte b) ram = cond (isFull s) (waited s) (turnOf (s .received + 1) (afterReceive (s .state) (s .words) ram b))
 
 -- and what RAM then holds
 abbrev pub ramAfter : Session → Next → List ℕ → List ℕ
 ramAfter s End ram = ram
-ramAfter s (Byte b) ram = cond (isFull s) ram (received (s .state) (s .words) ram b .ram)
+ramAfter s (Byte b) ram = cond (isFull s) ram (afterReceive (s .state) (s .words) ram b .ram)
 
 -- ---- the loop of `headlog`
 

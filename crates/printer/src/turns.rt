@@ -16,11 +16,11 @@ use loader::State;
 pub struct Session {
     pub state: State,
     pub words: [u32; 8],
-    // How many bytes were heard.
-    pub heard: u64,
+    // How many bytes were received.
+    pub received: u64,
 }
 
-// A heard byte, or the end of the input.
+// A received byte, or the end of the input.
 pub enum Next {
     Byte(u8),
     End,
@@ -62,7 +62,7 @@ fn begin(front: [u8; 296], ram_len: usize) -> Turn
         session: Session {
             state,
             words,
-            heard: 0,
+            received: 0,
         },
         text: lines::end_line(lines::empty(), answer, [0; 32]),
         over: is_over(answer),
@@ -77,7 +77,7 @@ pub fn advance(s: Session, next: Next, ram: &mut [u8]) -> Turn
 {
     match next {
         Next::End => wait(s),
-        Next::Byte(b) => hear(s, b, ram),
+        Next::Byte(b) => receive(s, b, ram),
     }
 }
 
@@ -87,17 +87,17 @@ fn wait(s: Session) -> Turn
 {
     Turn {
         session: s,
-        text: lines::numbered(lines::empty(), b'W', s.heard),
+        text: lines::numbered(lines::empty(), b'W', s.received),
         over: true,
     }
 }
 
-// Hears a byte. Nothing says that an input ends, and the count does at 2^64 - 1: there the session ends as if the input did.
-fn hear(s: Session, byte: u8, ram: &mut [u8]) -> Turn
+// Receives a byte. Nothing says that an input ends, and the count does at 2^64 - 1: there the session ends as if the input did.
+fn receive(s: Session, byte: u8, ram: &mut [u8]) -> Turn
     ensures turn { λ r. ⌜ r ≡ turned s (next.Byte byte) (now (ram .entry)) ⌝ }
     ensures ram { λ r. ⌜ now (ram .exit) ≡ ramAfter s (next.Byte byte) (now (ram .entry)) ⌝ }
 {
-    if s.heard == u64::MAX {
+    if s.received == u64::MAX {
         return wait(s);
     }
     let state = s.state;
@@ -111,7 +111,7 @@ fn hear(s: Session, byte: u8, ram: &mut [u8]) -> Turn
         session: Session {
             state: next,
             words,
-            heard: s.heard + 1,
+            received: s.received + 1,
         },
         text: lines::end_line(reply(room, r.reply), answer, cdi),
         over: is_over(answer),

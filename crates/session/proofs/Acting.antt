@@ -25,7 +25,7 @@ use Rattle.head.specs.Begin.{waiting, configOf}
 use Rattle.head.specs.Machine.{actionIn, frameIn, storedIn, replying, loadAnswer, afterLoad, starting, allowed, finishedWith, actedBlock, performed, acted}
 use Rattle.head.proofs.Same.{same-refl, same-eq}
 use Rattle.head.proofs.Ranges.{never, by-test, length-some}
-use Rattle.session.specs.Reading.{Good, forFirmware, bodyOf, Query, Load, Opens, Block, carried, sizeOf, programOf, digestOf, Allowed, chained, measuredId}
+use Rattle.session.specs.Reading.{Good, forFirmware, bodyOf, QueryFrame, LoadFrame, Opens, BlockFrame, carried, sizeOf, programOf, digestOf, Allowed, chained, measuredId}
 use Rattle.session.proofs.Frames.{All-append}
 use Rattle.session.proofs.Gathering.{holding, length-snoc}
 use Rattle.session.proofs.Shapes.{AskedWaiting, asks-name, asks-udi, asks-load, wrong-command, wrong-length, asked-waiting, AskedLoading, asks-block, no-command, no-length, asked-loading, Shape, one-shape, next-is, no-load, carried-snoc, carries-127, carried-length, load-size, All-last}
@@ -115,9 +115,9 @@ module _ (rec udi : List ℕ) (m : ℕ) where
 
   -- the reply to a frame after which the session goes on
   pub data ReplyTo (f : List ℕ) : Reply → Type 0 where
-    to-query : Query f → (r : Reply) → ReplyTo f r
-    to-load : Load f → (h : ℕ) → h ≡ getD f 0 0 → (g : Bool) → g ≡ goodLoad m (loadIn f) → ReplyTo f (loadReply h g)
-    to-block : Block f → (h : ℕ) → h ≡ getD f 0 0 → ReplyTo f (blockReply h)
+    to-query : QueryFrame f → (r : Reply) → ReplyTo f r
+    to-load : LoadFrame f → (h : ℕ) → h ≡ getD f 0 0 → (g : Bool) → g ≡ goodLoad m (loadIn f) → ReplyTo f (loadReply h g)
+    to-block : BlockFrame f → (h : ℕ) → h ≡ getD f 0 0 → ReplyTo f (blockReply h)
 
   -- it is in the room
   pub record Replies (room f : List ℕ) (o : Outcome) : Type 0 where
@@ -128,19 +128,19 @@ module _ (rec udi : List ℕ) (m : ℕ) where
 
   pub data Acts (room uds : List ℕ) (os : List (List ℕ)) (f : List ℕ) (o : Outcome) : Type 0 where
     goes : o .report ≡ continues → (p : Progress) → o .state ≡ at idle p → Doing (o .ram) (os ++ f ∷ []) p → length (o .ram) ≡ m → Replies room f o → Acts room uds os f o
-    starts : (g : Shape m (os ++ f ∷ [])) → Complete g → Block f → Leaves (g .load) (g .blocks) (getD f 0 0) room uds o → Acts room uds os f o
+    starts : (g : Shape m (os ++ f ∷ [])) → Complete g → BlockFrame f → Leaves (g .load) (g .blocks) (getD f 0 0) room uds o → Acts room uds os f o
     stops : (k : ℕ) → o .report ≡ stopped k → o .state ≡ ended phase.Stopped m → ((hs : List (List ℕ)) (g : Shape m (os ++ f ∷ hs)) → Complete g → ⊥) → Acts room uds os f o
 
   module _ (room ram uds : List ℕ) (fits : length ram ≡ m) (os : List (List ℕ)) where
     -- a frame that is not one of a start, however the bytes go on
-    not-next : (f : List ℕ) → All (Opens m) os → (Query f → ⊥) → (Load f → ⊥) → (hs : List (List ℕ)) (g : Shape m (os ++ f ∷ hs)) → ⊥
+    not-next : (f : List ℕ) → All (Opens m) os → (QueryFrame f → ⊥) → (LoadFrame f → ⊥) → (hs : List (List ℕ)) (g : Shape m (os ++ f ∷ hs)) → ⊥
     not-next f a q l hs g =
         ⊎-elim (λ o. ⊎-elim q (λ b. l (b .0)) o) (λ b. l (b .0)) (next-is m os f hs a (g .opening) (g .load) (g .blocks) (g .opens) (g .loads) (g .order))
 
     opened : (f : List ℕ) → All (Opens m) os → Opens m f → Doing ram (os ++ f ∷ []) waiting
     opened f a o = is-waiting (All-append (Opens m) os (f ∷ []) a (o, tt))
 
-    acts-load : (f : List ℕ) → All (Opens m) os → Load f → frameIn (at (holding f) waiting) ≡ f
+    acts-load : (f : List ℕ) → All (Opens m) os → LoadFrame f → frameIn (at (holding f) waiting) ≡ f
         → Acts room uds os f (performed action.TakeLoad (at (holding f) waiting) room ram uds)
     unfolding afterLoad loadAnswer
     acts-load f a l e =
@@ -163,7 +163,7 @@ module _ (rec udi : List ℕ) (m : ℕ) where
     acts-waiting f a e d (wrong-length q l) = stops 24 refl refl (λ hs g c. not-next f a q l hs g)
 
     module _ (g : Shape m os) (due : length (g .blocks) < blocksFor (sizeOf (g .load))) (held : take (127 * length (g .blocks)) ram ≡ carried (g .blocks)) (f : List ℕ)
-        (b : Block f) where
+        (b : BlockFrame f) where
       abbrev more : Shape m (os ++ f ∷ [])
       more =
           record {
@@ -173,7 +173,7 @@ module _ (rec udi : List ℕ) (m : ℕ) where
             order = ap (λ (r : List (List ℕ)). r ++ f ∷ []) (g .order) ∙ append-assoc (g .opening) (g .load ∷ g .blocks) (f ∷ []);
             opens = g .opens;
             loads = g .loads;
-            carry = All-append Block (g .blocks) (f ∷ []) (g .carry) (b, tt);
+            carry = All-append BlockFrame (g .blocks) (f ∷ []) (g .carry) (b, tt);
           }
 
       abbrev ram-after : List ℕ
@@ -265,10 +265,10 @@ module _ (rec udi : List ℕ) (m : ℕ) where
           (record { is = _; reply-to = to-block b (i .header) h; reply = refl; room-after = refl })))
 
     -- a frame that is no block, once blocks are due
-    not-block : (g : Shape m os) (f : List ℕ) → (Block f → ⊥) → (hs : List (List ℕ)) (h : Shape m (os ++ f ∷ hs)) → ⊥
+    not-block : (g : Shape m os) (f : List ℕ) → (BlockFrame f → ⊥) → (hs : List (List ℕ)) (h : Shape m (os ++ f ∷ hs)) → ⊥
     not-block g f x hs h =
         let u = grows m os (f ∷ hs) g h in
-        x (All-last Block (g .blocks) f hs (rw (u .1) (h .carry)))
+        x (All-last BlockFrame (g .blocks) f hs (rw (u .1) (h .carry)))
 
     acts-loading : (g : Shape m os) → length (g .blocks) < blocksFor (sizeOf (g .load)) → take (127 * length (g .blocks)) ram ≡ carried (g .blocks)
         → (f : List ℕ) (i : Incoming) → (length (bodyOf f) ≡ 128 → i .header ∷ i .body ≡ f) → i .header ≡ getD f 0 0 → (d : Action) → AskedLoading f d

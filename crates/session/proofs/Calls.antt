@@ -2,7 +2,7 @@
 use Prim.Native.Nat.{ℕ, suc, _+_}
 use mathlib.Core.Path.{_≡_, refl, sym, ap, _∙_, subst}
 use mathlib.Core.Bool.{true, false}
-use mathlib.Core.List.{List, [], _∷_, _++_, append-assoc, append-nil, head-eq-of-cons-eq, tail-eq-of-cons-eq}
+use mathlib.Core.List.{List, [], _∷_, _++_, append-assoc, append-nil, head-eq-of-cons-eq, tail-eq-of-cons-eq, flatten}
 use native.Mathlib.Omega.{arith}
 use lib.ListN.{length, getD, length-append}
 use Rattle.endian.proofs.Cases.{impossible}
@@ -12,9 +12,9 @@ use Rattle.head.specs.State.{ended}
 use Rattle.head.specs.Answers.{continues, stopped, Outcome}
 use Rattle.head.specs.Machine.{gathered, withIncoming, afterByte, processed}
 use Rattle.endian.specs.Lists.{All}
-use Rattle.session.specs.Reading.{Good, joined, forFirmware, own, sizeOf, Starting}
+use Rattle.session.specs.Reading.{Good, forFirmware, own, sizeOf, Starting}
 use Rattle.session.specs.Session.{Call}
-use Rattle.session.proofs.Frames.{All-append, own-append, joined-snoc, own-more, own-same, same-size, Further, reads-on}
+use Rattle.session.proofs.Frames.{All-append, own-append, flatten-snoc, own-more, own-same, same-size, Further, reads-on}
 use Rattle.session.proofs.Gathering.{holding, Partial, Gathers, at-bad, at-part, at-passed, at-whole, gathers}
 use Rattle.session.proofs.Shapes.{Shape}
 use Rattle.session.proofs.Acting.{empty-rest, grows, at, Doing, Complete, not-yet, Leaves, Replies, Acts, goes, starts, stops, acts}
@@ -24,21 +24,23 @@ use Rattle.head.specs.declared.State.{State}
 use Rattle.head.specs.declared.Gathered.{Gathered}
 
 -- what is left over of a part, in the bytes of whole good frames, is nothing
-none-partial : (p : List ℕ) (hs : List (List ℕ)) → Partial p → All Good hs → p ≡ joined hs → hs ≡ []
+none-partial : (p : List ℕ) (hs : List (List ℕ)) → Partial p → All Good hs → p ≡ flatten hs → hs ≡ []
+unfolding flatten
 none-partial p [] v a e = refl
 none-partial p ([] ∷ hs) v a e = absurd (let l : 0 ≡ 1 + a .0 .n = a .0 .whole in omega arith)
 none-partial [] ((k ∷ f) ∷ hs) v a e = impossible cc
 none-partial (h ∷ p) ((k ∷ f) ∷ hs) v a e =
     let eh : h ≡ k = head-eq-of-cons-eq e in
-    let ep : length p ≡ length (f ++ joined hs) = ap length (tail-eq-of-cons-eq e) in
-    let el = length-append f (joined hs) in
+    let ep : length p ≡ length (f ++ flatten hs) = ap length (tail-eq-of-cons-eq e) in
+    let el = length-append f (flatten hs) in
     let g : Good (k ∷ f) = a .0 in
     let s : v .n ≡ g .n = same-size (v .id) (g .id) (v .ep) (g .ep) (v .n) (g .n) (sym (v .header) ∙ ap headerAt eh ∙ g .header) in
     let w : suc (length f) ≡ 1 + g .n = g .whole in
     absurd (omega (arith, v .short))
 
 -- a bad header begins no frame
-no-bad : (b : ℕ) (rest : List ℕ) (hs : List (List ℕ)) → headerAt b ≡ stop 22 → All Good hs → b ∷ rest ≡ joined hs → ⊥
+no-bad : (b : ℕ) (rest : List ℕ) (hs : List (List ℕ)) → headerAt b ≡ stop 22 → All Good hs → b ∷ rest ≡ flatten hs → ⊥
+unfolding flatten
 no-bad b rest [] x a e = impossible cc
 no-bad b rest ([] ∷ hs) x a e = let l : 0 ≡ 1 + a .0 .n = a .0 .whole in omega arith
 no-bad b rest ((k ∷ f) ∷ hs) x a e =
@@ -64,18 +66,18 @@ module _ (rec udi : List ℕ) (m : ℕ) where
     pub frames : List (List ℕ)
     pub part : List ℕ
     pub all-good : All Good frames
-    pub whole : bs ≡ joined frames ++ part
+    pub whole : bs ≡ flatten frames ++ part
     pub partial : Partial part
     pub progress : Progress
     pub state : s ≡ at rec udi m (holding part) progress
     pub doing : Doing rec udi m r (own frames) progress
 
   -- bytes that go on after whole frames, read as those of a start
-  module _ (bs rest : List ℕ) (fs : List (List ℕ)) (part : List ℕ) (a : All Good fs) (e : bs ≡ joined fs ++ part) (w : Starting rec m (bs ++ rest)) where
+  module _ (bs rest : List ℕ) (fs : List (List ℕ)) (part : List ℕ) (a : All Good fs) (e : bs ≡ flatten fs ++ part) (w : Starting rec m (bs ++ rest)) where
     further : Further fs (w .before ++ w .last ∷ []) (part ++ rest)
     further =
         reads-on fs (w .before ++ w .last ∷ []) (part ++ rest) a (w .all-good)
-        (sym (append-assoc (joined fs) part rest) ∙ ap (λ (x : List ℕ). x ++ rest) (sym e) ∙ w .nothing-left)
+        (sym (append-assoc (flatten fs) part rest) ∙ ap (λ (x : List ℕ). x ++ rest) (sym e) ∙ w .nothing-left)
 
   abbrev shape-of : {bs : List ℕ} (w : Starting rec m bs) (os : List (List ℕ)) → os ≡ own (w .before ++ w .last ∷ []) → Shape m os
   shape-of w os e = record { opening = w .opening; load = w .load; blocks = w .blocks; order = e ∙ w .order; opens = w .opens; loads = w .loads; carry = w .carry }
@@ -89,21 +91,21 @@ module _ (rec udi : List ℕ) (m : ℕ) where
       not-yet rec udi m (v .doing) (shape-of w (own (v .frames)) e) (record { enough = w .enough; digest = w .allowed })
 
   -- what is in the room after a call that goes on: a reply with the last byte of a frame for the firmware, and otherwise nothing
-  pub data Says (room f : List ℕ) (o : Outcome) : Type 0 where
-    within : Partial f → o .reply ≡ 0 → Says room f o
-    passed : forFirmware f ≡ false → o .reply ≡ 0 → Says room f o
-    answers : Good f → Replies rec udi m room f o → Says room f o
+  pub data FrameReply (room f : List ℕ) (o : Outcome) : Type 0 where
+    within : Partial f → o .reply ≡ 0 → FrameReply room f o
+    passed : forFirmware f ≡ false → o .reply ≡ 0 → FrameReply room f o
+    answers : Good f → Replies rec udi m room f o → FrameReply room f o
 
   -- the bytes so far are whole frames, and then these, of which the byte is the last
-  pub record Said (c : Call) (bs : List ℕ) (o : Outcome) : Type 0 where
+  pub record CallReply (c : Call) (bs : List ℕ) (o : Outcome) : Type 0 where
     pub frames : List (List ℕ)
     pub part : List ℕ
     pub all-good : All Good frames
-    pub whole : bs ≡ joined frames ++ (part ++ c .byte ∷ [])
-    pub says : Says (c .room) (part ++ c .byte ∷ []) o
+    pub whole : bs ≡ flatten frames ++ (part ++ c .byte ∷ [])
+    pub says : FrameReply (c .room) (part ++ c .byte ∷ []) o
 
   pub data After (c : Call) (bs : List ℕ) (o : Outcome) : Type 0 where
-    goes-on : o .report ≡ continues → Live bs (o .state) (o .ram) → length (o .ram) ≡ m → Said c bs o → After c bs o
+    goes-on : o .report ≡ continues → Live bs (o .state) (o .ram) → length (o .ram) ≡ m → CallReply c bs o → After c bs o
     has-started : (w : Starting rec m bs) → Leaves rec udi m (w .load) (w .blocks) (getD (w .last) 0 0) (c .room) (c .uds) o
         → ((rest : List ℕ) → Starting rec m (bs ++ rest) → rest ≡ []) → After c bs o
     has-stopped : (k : ℕ) → o .report ≡ stopped k → o .state ≡ ended phase.Stopped m → ((rest : List ℕ) → Starting rec m (bs ++ rest) → ⊥) → After c bs o
@@ -112,14 +114,14 @@ module _ (rec udi : List ℕ) (m : ℕ) where
     abbrev byte-in : List ℕ
     byte-in = v .part ++ c .byte ∷ []
 
-    longer : bs ++ c .byte ∷ [] ≡ joined (v .frames) ++ byte-in
-    longer = ap (λ (x : List ℕ). x ++ c .byte ∷ []) (v .whole) ∙ append-assoc (joined (v .frames)) (v .part) (c .byte ∷ [])
+    longer : bs ++ c .byte ∷ [] ≡ flatten (v .frames) ++ byte-in
+    longer = ap (λ (x : List ℕ). x ++ c .byte ∷ []) (v .whole) ∙ append-assoc (flatten (v .frames)) (v .part) (c .byte ∷ [])
 
     -- with the frame that the byte ends
-    closed : bs ++ c .byte ∷ [] ≡ joined (v .frames ++ byte-in ∷ [])
-    closed = longer ∙ sym (joined-snoc (v .frames) byte-in)
+    closed : bs ++ c .byte ∷ [] ≡ flatten (v .frames ++ byte-in ∷ [])
+    closed = longer ∙ sym (flatten-snoc (v .frames) byte-in)
 
-    closed-nil : bs ++ c .byte ∷ [] ≡ joined (v .frames ++ byte-in ∷ []) ++ []
+    closed-nil : bs ++ c .byte ∷ [] ≡ flatten (v .frames ++ byte-in ∷ []) ++ []
     closed-nil = closed ∙ sym (append-nil _)
 
     all-good : Good byte-in → All Good (v .frames ++ byte-in ∷ [])
@@ -137,6 +139,7 @@ module _ (rec udi : List ℕ) (m : ℕ) where
 
     last-start : (g : Good byte-in) → forFirmware byte-in ≡ true → (h : Shape m (own (v .frames) ++ byte-in ∷ [])) → Complete rec udi m h
         → (rest : List ℕ) → Starting rec m ((bs ++ c .byte ∷ []) ++ rest) → rest ≡ []
+    unfolding flatten
     last-start g o h k rest w =
         let u = further (bs ++ c .byte ∷ []) rest (v .frames ++ byte-in ∷ []) [] (all-good g) closed-nil w in
         let e = sym (append-assoc (own (v .frames)) (byte-in ∷ []) (own (u .rest))) in
@@ -145,9 +148,9 @@ module _ (rec udi : List ℕ) (m : ℕ) where
         let s : blocksFor (sizeOf (h .load)) ≡ blocksFor (sizeOf (w .load)) = ap (λ (x : List ℕ). blocksFor (sizeOf x)) (t .0) in
         let n : own (u .rest) ≡ [] = empty-rest (own (u .rest)) (omega (arith, k .enough, w .enough)) in
         let z : u .rest ≡ [] = none-after (v .frames ++ byte-in ∷ []) (u .rest) (w .before) (w .last) (u .frames) (w .last-own) n in
-        u .bytes ∙ ap joined z
+        u .bytes ∙ ap flatten z
 
-    said : (o : Outcome) → Says (c .room) byte-in o → Said c (bs ++ c .byte ∷ []) o
+    said : (o : Outcome) → FrameReply (c .room) byte-in o → CallReply c (bs ++ c .byte ∷ []) o
     said o s = record { frames = v .frames; part = v .part; all-good = v .all-good; whole = longer; says = s }
 
     acted-after : (g : Good byte-in) → forFirmware byte-in ≡ true → (o : Outcome) → Acts rec udi m (c .room) (c .uds) (own (v .frames)) byte-in o
@@ -192,7 +195,7 @@ module _ (rec udi : List ℕ) (m : ℕ) where
         → After c (bs ++ c .byte ∷ []) (afterByte (x .step) (withIncoming (at rec udi m (holding (v .part)) (v .progress)) (x .incoming)) (c .room) (c .ram) (c .uds))
     gathered-after x (at-bad p e q) =
         rw q (has-stopped 22 refl refl (λ rest w.
-        let u = further (bs ++ c .byte ∷ []) rest (v .frames) (c .byte ∷ []) (v .all-good) (longer ∙ ap (λ (y : List ℕ). joined (v .frames) ++ (y ++ c .byte ∷ [])) p) w in
+        let u = further (bs ++ c .byte ∷ []) rest (v .frames) (c .byte ∷ []) (v .all-good) (longer ∙ ap (λ (y : List ℕ). flatten (v .frames) ++ (y ++ c .byte ∷ [])) p) w in
         no-bad (c .byte) rest (u .rest) e (u .all-good) (u .bytes)))
     gathered-after x (at-part p q) =
         rw q (goes-on refl

@@ -2,7 +2,7 @@
 use Prim.Native.Nat.{ℕ, zero, suc, _+_, _-_, _*_, _/_, _<_, _≤_}
 use mathlib.Core.Path.{_≡_, refl, sym, ap, _∙_, subst}
 use mathlib.Core.Bool.{Bool, true, false, cond}
-use mathlib.Core.List.{List, [], _∷_, _++_, append-assoc, append-nil, head-eq-of-cons-eq, tail-eq-of-cons-eq}
+use mathlib.Core.List.{List, [], _∷_, _++_, append-assoc, append-nil, head-eq-of-cons-eq, tail-eq-of-cons-eq, flatten}
 use native.Mathlib.Nat.{add-zero, zero-add}
 use native.Mathlib.Omega.{arith}
 use native.Mathlib.Numerals.{add-one}
@@ -29,16 +29,16 @@ use Rattle.client.specs.Frames.{refusal, commandHeader}
 use Rattle.client.specs.Replies.{takingAs, taking}
 use Rattle.client.proofs.Proved.{client}
 use Rattle.client.specs.declared.Secret.{Secret}
-use Rattle.session.specs.Reading.{joined, forFirmware, bodyOf, sizeOf, programOf, digestOf, Allowed, chained, measuredId, Starting}
+use Rattle.session.specs.Reading.{forFirmware, bodyOf, sizeOf, programOf, digestOf, Allowed, chained, measuredId, Starting}
 use Rattle.session.specs.Session.{Call, Entry, entryOf, log, isAccepted, accepted, receivedBytes, OneRam, Session, allOf, acceptedOf, hasEnded}
 use Rattle.session.specs.Boot.{Start}
-use Rattle.session.specs.Client.{frame, frames, programDigest, digestAt, Made, Heard, Replied, Loads, ClientLoad}
+use Rattle.session.specs.Client.{frame, frames, programDigest, digestAt, Made, ReceivesFrames, Replied, Loads, ClientLoad}
 use Rattle.session.proofs.Frames.{same-size}
 use Rattle.session.proofs.Gathering.{length-snoc}
 use Rattle.session.proofs.Acting.{Leaves, ReplyTo, to-query, to-load, to-block}
 use Rattle.session.proofs.Strings.{digest-length}
-use Rattle.session.proofs.Proved.{one-reading, one-last, first-live, begins, gives, session, all-fed}
-use Rattle.session.proofs.Calls.{Live, not-live, Says, within, passed, answers, Said, After, goes-on, has-started, has-stopped, after}
+use Rattle.session.proofs.Proved.{one-reading, one-last, first-live, begins, gives, session, sent-accepted}
+use Rattle.session.proofs.Calls.{Live, not-live, FrameReply, within, passed, answers, CallReply, After, goes-on, has-started, has-stopped, after}
 use Rattle.session.proofs.Walk.{numberOf, call-is}
 use Rattle.session.proofs.ClientFrames as made
 use Rattle.session.proofs.Positions.{total, Place, place}
@@ -138,14 +138,14 @@ module _ (prog : List ℕ) (id : ℕ) (secret : Secret) (makes : Made prog id se
         )
 
     -- what a call that goes on says, where it received byte i
-    replied : (rec udi : List ℕ) (c : Call) (bs rest : List ℕ) (o : Outcome) (i : ℕ) → length bs ≡ suc i → bs ++ rest ≡ joined (frames prog id secret)
-        → (rest ≡ [] → ⊥) → Said rec udi m c bs o → Replied prog id secret i (record { call = c; out = o })
+    replied : (rec udi : List ℕ) (c : Call) (bs rest : List ℕ) (o : Outcome) (i : ℕ) → length bs ≡ suc i → bs ++ rest ≡ flatten (frames prog id secret)
+        → (rest ≡ [] → ⊥) → CallReply rec udi m c bs o → Replied prog id secret i (record { call = c; out = o })
     replied rec udi c bs rest o i li e left s = by-part (s .part) (s .whole) (s .says)
       where
         one-header : headerAt (commandHeader id) ≡ good id firmware 128
         one-header = made.frame-header prog id secret makes
 
-        at-place : (h : ℕ) (p : List ℕ) → Place prog id secret makes (suc (blocksFor n)) bs (s .frames) h p → Says rec udi m (c .room) (h ∷ p) o
+        at-place : (h : ℕ) (p : List ℕ) → Place prog id secret makes (suc (blocksFor n)) bs (s .frames) h p → FrameReply rec udi m (c .room) (h ∷ p) o
             → Replied prog id secret i (record { call = c; out = o })
         at-place h p a (within v z) =
             let q = same-size (v .id) id (v .ep) firmware (v .n) 128 (sym (v .header) ∙ ap headerAt (a .header) ∙ one-header) in
@@ -168,7 +168,7 @@ module _ (prog : List ℕ) (id : ℕ) (secret : Secret) (makes : Made prog id se
                   (ap (taking n id k) (front (c .room) (r .is) o (x .0) (r .reply) (r .room-after)) ∙ x .1 ∙ ap (takingAs 0 0) (sym (digest-none k b)));
             }
 
-        by-part : (q : List ℕ) → bs ≡ joined (s .frames) ++ (q ++ c .byte ∷ []) → Says rec udi m (c .room) (q ++ c .byte ∷ []) o
+        by-part : (q : List ℕ) → bs ≡ flatten (s .frames) ++ (q ++ c .byte ∷ []) → FrameReply rec udi m (c .room) (q ++ c .byte ∷ []) o
             → Replied prog id secret i (record { call = c; out = o })
         by-part [] w x = at-place (c .byte) [] (place prog id secret makes (suc (blocksFor n)) bs rest (s .frames) (c .byte) [] (s .all-good) w e) x
         by-part (h ∷ q) w x =
@@ -198,18 +198,18 @@ module _ (prog : List ℕ) (id : ℕ) (secret : Secret) (makes : Made prog id se
   -- ---- each call in turn
 
   -- calls from the one that received byte i on
-  pub data Course : ℕ → List Entry → Type 0 where
-    ends : (i : ℕ) (e : Entry) (address size : ℕ) → e .out .report ≡ started address size → Replied prog id secret i e → Course i (e ∷ [])
-    goes : (i : ℕ) (e : Entry) (es : List Entry) → e .out .report ≡ continues → Replied prog id secret i e → Course (suc i) es → Course i (e ∷ es)
+  pub data LoadTrace : ℕ → List Entry → Type 0 where
+    ends : (i : ℕ) (e : Entry) (address size : ℕ) → e .out .report ≡ started address size → Replied prog id secret i e → LoadTrace i (e ∷ [])
+    goes : (i : ℕ) (e : Entry) (es : List Entry) → e .out .report ≡ continues → Replied prog id secret i e → LoadTrace (suc i) es → LoadTrace i (e ∷ es)
 
   module _ (rec udi : List ℕ) (m : ℕ) (fits : n ≤ m) (allows : Allowed rec (programDigest prog id secret)) where
-    reading : (heard : List ℕ) → heard ≡ joined (frames prog id secret) → Starting rec m heard
+    reading : (received : List ℕ) → received ≡ flatten (frames prog id secret) → Starting rec m received
     reading = made.reading prog id secret makes rec m fits allows
 
     -- the start that the last byte is
-    started-with : (c : Call) (before : List ℕ) (o : Outcome) → before ++ c .byte ∷ [] ≡ joined (frames prog id secret)
+    started-with : (c : Call) (before : List ℕ) (o : Outcome) → before ++ c .byte ∷ [] ≡ flatten (frames prog id secret)
         → (w : Starting rec m (before ++ c .byte ∷ [])) → Leaves rec udi m (w .load) (w .blocks) (getD (w .last) 0 0) (c .room) (c .uds) o
-        → Course (length before) (record { call = c; out = o } ∷ [])
+        → LoadTrace (length before) (record { call = c; out = o } ∷ [])
     unfolding reading
     started-with c before o e w l =
         let ours = reading (before ++ c .byte ∷ []) e in
@@ -224,10 +224,10 @@ module _ (prog : List ℕ) (id : ℕ) (secret : Secret) (makes : Made prog id se
         ends (length before) (record { call = c; out = o }) 0x40000000 (sizeOf (w .load)) (l .report)
         (last-replied c o (length before) (getD (w .last) 0 0) (digestOf (w .load) (w .blocks)) (omega arith) h d (l .reply) (l .room-after))
 
-    course : (cs : List Call) (before : List ℕ) (s : State) (r : List ℕ) → Live rec udi m before s r → OneRam r (accepted (log s cs)) → accepted (log s cs) ≡ log s cs
-        → before ++ receivedBytes (log s cs) ≡ joined (frames prog id secret) → Course (length before) (log s cs)
-    course [] before s r v o a e = absurd (not-live rec udi m v (reading before (sym (append-nil before) ∙ e)))
-    course (c ∷ cs) before s r v o a e = go taken (λ u p. course cs (before ++ c .byte ∷ []) _ _ u (y .1) (x .1) p)
+    load-trace : (cs : List Call) (before : List ℕ) (s : State) (r : List ℕ) → Live rec udi m before s r → OneRam r (accepted (log s cs)) → accepted (log s cs) ≡ log s cs
+        → before ++ receivedBytes (log s cs) ≡ flatten (frames prog id secret) → LoadTrace (length before) (log s cs)
+    load-trace [] before s r v o a e = absurd (not-live rec udi m v (reading before (sym (append-nil before) ∙ e)))
+    load-trace (c ∷ cs) before s r v o a e = go taken (λ u p. load-trace cs (before ++ c .byte ∷ []) _ _ u (y .1) (x .1) p)
       where
         x : (isAccepted (entryOf s c .out .report) ≡ true) × (accepted (log (entryOf s c .out .state) cs) ≡ log (entryOf s c .out .state) cs)
         x = none-refused (entryOf s c) (log (entryOf s c .out .state) cs) a
@@ -249,26 +249,26 @@ module _ (prog : List ℕ) (id : ℕ) (secret : Secret) (makes : Made prog id se
         rest : List ℕ
         rest = receivedBytes (log (entryOf s c .out .state) cs)
 
-        whole : (before ++ c .byte ∷ []) ++ rest ≡ joined (frames prog id secret)
+        whole : (before ++ c .byte ∷ []) ++ rest ≡ flatten (frames prog id secret)
         whole = append-assoc before (c .byte ∷ []) rest ∙ e
 
         -- where the byte is the last
-        all-there : rest ≡ [] → before ++ c .byte ∷ [] ≡ joined (frames prog id secret)
+        all-there : rest ≡ [] → before ++ c .byte ∷ [] ≡ flatten (frames prog id secret)
         all-there j = sym (append-nil (before ++ c .byte ∷ [])) ∙ ap (λ (x : List ℕ). (before ++ c .byte ∷ []) ++ x) (sym j) ∙ whole
 
         go : After rec udi m c (before ++ c .byte ∷ []) (entryOf s c .out)
-            → (Live rec udi m (before ++ c .byte ∷ []) (entryOf s c .out .state) (entryOf s c .out .ram) → (before ++ c .byte ∷ []) ++ rest ≡ joined (frames prog id secret)
-            → Course (length (before ++ c .byte ∷ [])) (log (entryOf s c .out .state) cs))
-            → Course (length before) (entryOf s c ∷ log (entryOf s c .out .state) cs)
+            → (Live rec udi m (before ++ c .byte ∷ []) (entryOf s c .out .state) (entryOf s c .out .ram) → (before ++ c .byte ∷ []) ++ rest ≡ flatten (frames prog id secret)
+            → LoadTrace (length (before ++ c .byte ∷ [])) (log (entryOf s c .out .state) cs))
+            → LoadTrace (length before) (entryOf s c ∷ log (entryOf s c .out .state) cs)
         go (goes-on p u l sd) f =
             let k : length (before ++ c .byte ∷ []) ≡ suc (length before) = length-snoc before (c .byte) ∙ add-one (length before) in
             goes (length before) (entryOf s c) _ p
             (replied m fits rec udi c (before ++ c .byte ∷ []) rest (entryOf s c .out) (length before) k whole
             (λ j. not-live rec udi m u (reading (before ++ c .byte ∷ []) (all-there j))) sd)
-            (subst (λ (j : ℕ). Course j (log (entryOf s c .out .state) cs)) k (f u whole))
+            (subst (λ (j : ℕ). LoadTrace j (log (entryOf s c .out .state) cs)) k (f u whole))
         go (has-started w l d) f =
             let none : rest ≡ [] = d rest (reading ((before ++ c .byte ∷ []) ++ rest) whole) in
-            subst (λ (es : List Entry). Course (length before) (entryOf s c ∷ es)) (sym (no-calls (log (entryOf s c .out .state) cs) none))
+            subst (λ (es : List Entry). LoadTrace (length before) (entryOf s c ∷ es)) (sym (no-calls (log (entryOf s c .out .state) cs) none))
             (started-with c before (entryOf s c .out) (all-there none) w l)
         go (has-stopped k p j d) f = absurd (d rest (reading ((before ++ c .byte ∷ []) ++ rest) whole))
 
@@ -284,7 +284,7 @@ module _ (prog : List ℕ) (id : ℕ) (secret : Secret) (makes : Made prog id se
     pub size : ℕ
     pub answers : last .out .report ≡ started address size
 
-  ended : (i : ℕ) (es : List Entry) → Course i es → Ended es
+  ended : (i : ℕ) (es : List Entry) → LoadTrace i es → Ended es
   ended i es (ends j e a s r x) = record { before = []; last = e; list = refl; not-before = refl; address = a; size = s; answers = r }
   ended i es (goes j e fs r x k) =
       let d = ended (suc j) fs k in
@@ -298,7 +298,7 @@ module _ (prog : List ℕ) (id : ℕ) (secret : Secret) (makes : Made prog id se
         answers = d .answers;
       }
 
-  replies : (i : ℕ) (es : List Entry) → Course i es → (before after : List Entry) (e : Entry) → es ≡ before ++ e ∷ after → Replied prog id secret (i + length before) e
+  replies : (i : ℕ) (es : List Entry) → LoadTrace i es → (before after : List Entry) (e : Entry) → es ≡ before ++ e ∷ after → Replied prog id secret (i + length before) e
   replies i es (ends j x a s r y) [] after e q = subst (λ (k : ℕ). Replied prog id secret k e) (sym (add-zero j)) (subst (Replied prog id secret j) (head-eq-of-cons-eq q) y)
   replies i es (ends j x a s r y) (b ∷ before) after e q =
       absurd (let l : 0 ≡ length (before ++ e ∷ after) = ap length (tail-eq-of-cons-eq q) in omega (arith, length-append before (e ∷ after)))
@@ -307,34 +307,34 @@ module _ (prog : List ℕ) (id : ℕ) (secret : Secret) (makes : Made prog id se
       let l : suc j + length before ≡ j + suc (length before) = omega arith in
       subst (λ (l : ℕ). Replied prog id secret l e) l (replies (suc j) fs k before after e (tail-eq-of-cons-eq q))
 
-  module _ (S : Session) (heard : Heard prog id secret S) where
-    course-of : Course 0 (allOf S)
-    course-of =
-        course (S .rec) (S .udi) (S .ramLen) (heard .fits) (heard .allowed) (S .calls) [] _ (S .ram) (first-live (S .rec) (S .udi) (S .ramLen) (S .ram) (begins S)) (S .one-ram)
-        (heard .none-refused) (heard .bytes)
+  module _ (S : Session) (received : ReceivesFrames prog id secret S) where
+    trace-of : LoadTrace 0 (allOf S)
+    trace-of =
+        load-trace (S .rec) (S .udi) (S .ramLen) (received .fits) (received .allowed) (S .calls) [] _ (S .ram) (first-live (S .rec) (S .udi) (S .ramLen) (S .ram) (begins S)) (S .one-ram)
+        (received .none-refused) (received .bytes)
 
     end : Ended (allOf S)
-    end = ended 0 (allOf S) course-of
+    end = ended 0 (allOf S) trace-of
 
-    all-heard : receivedBytes (acceptedOf S) ≡ joined (frames prog id secret)
-    all-heard = ap receivedBytes (heard .none-refused) ∙ heard .bytes
+    all-received : receivedBytes (acceptedOf S) ≡ flatten (frames prog id secret)
+    all-received = ap receivedBytes (received .none-refused) ∙ received .bytes
 
     abbrev start : Start S
     start =
         record {
           entry = end .last;
-          started-at = record { among = record { before = end .before; after = []; place = heard .none-refused ∙ end .list }; address = end .address; size = end .size; answers = end .answers };
-          reading = reading (S .rec) (S .udi) (S .ramLen) (heard .fits) (heard .allowed) (receivedBytes (acceptedOf S)) all-heard;
+          started-at = record { among = record { before = end .before; after = []; place = received .none-refused ∙ end .list }; address = end .address; size = end .size; answers = end .answers };
+          reading = reading (S .rec) (S .udi) (S .ramLen) (received .fits) (received .allowed) (receivedBytes (acceptedOf S)) all-received;
         }
 
     -- the load of the reading, and its program
     load-is : loadIn (start .reading .load) ≡ loadWith n (cond (secret .used) 1 0) (cond (secret .used) (secret .uss) (replicate 32 0))
     unfolding reading
-    load-is = made.reading-load prog id secret makes (S .rec) (S .ramLen) (heard .fits) (heard .allowed) (receivedBytes (acceptedOf S)) all-heard
+    load-is = made.reading-load prog id secret makes (S .rec) (S .ramLen) (received .fits) (received .allowed) (receivedBytes (acceptedOf S)) all-received
 
     program-is : programOf (start .reading .load) (start .reading .blocks) ≡ prog
     unfolding reading
-    program-is = made.reading-program prog id secret makes (S .rec) (S .ramLen) (heard .fits) (heard .allowed) (receivedBytes (acceptedOf S)) all-heard
+    program-is = made.reading-program prog id secret makes (S .rec) (S .ramLen) (received .fits) (received .allowed) (receivedBytes (acceptedOf S)) all-received
 
     loads : Loads prog id secret S
     loads =
@@ -350,7 +350,7 @@ module _ (prog : List ℕ) (id : ℕ) (secret : Secret) (makes : Made prog id se
           cdi = g .cdi ∙ ap (λ (x : List ℕ). blake2s [] x 32)
               (ap (λ (x : List ℕ). cdiString (bytes (end .last .call .uds)) (chained (S .rec)) (measuredId (S .rec)) (blake2s [] x 32) (usesUss (loadIn (start .reading .load))) (loadIn (start .reading .load) .uss)) program-is
               ∙ one-string (bytes (end .last .call .uds)) (measuredId (S .rec)) (programDigest prog id secret) (chained (S .rec)) n (secret .used) (secret .uss) (loadIn (start .reading .load)) load-is);
-          replies = λ e i. subst (λ (k : ℕ). Replied prog id secret k e) (zero-add (length (i .before))) (replies 0 (allOf S) course-of (i .before) (i .after) e (i .place));
+          replies = λ e i. subst (λ (k : ℕ). Replied prog id secret k e) (zero-add (length (i .before))) (replies 0 (allOf S) trace-of (i .before) (i .after) e (i .place));
         }
 
 pub client-load : ClientLoad
@@ -359,7 +359,7 @@ client-load =
       reads = made.reads;
       loads = loads;
       exists = λ program id secret makes rec udi ram uds accepts client eight typed fits allows.
-          let f = all-fed rec udi ram uds program id secret makes accepts client eight typed fits allows in (
+          let f = sent-accepted rec udi ram uds program id secret makes accepts client eight typed fits allows in (
             session rec udi ram uds program id secret makes accepts client eight typed fits allows,
             record { fits = fits; allowed = allows; bytes = f .all-bytes; none-refused = f .none-refused },
             refl,

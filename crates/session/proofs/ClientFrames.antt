@@ -3,7 +3,7 @@ use Prim.Native.Nat.{ℕ, zero, suc, _+_, _-_, _*_, _/_, _%_, _<_, _≤_}
 use mathlib.Core.Path.{_≡_, refl, sym, ap, _∙_, subst}
 use mathlib.Core.Logic.{_⊎_, inl, inr}
 use mathlib.Core.Bool.{Bool, true, false, cond}
-use mathlib.Core.List.{List, [], _∷_, _++_, append-nil}
+use mathlib.Core.List.{List, [], _∷_, _++_, append-nil, flatten}
 use native.Mathlib.Nat.{suc-sub-suc, sub-zero}
 use native.Mathlib.Omega.{arith}
 use lib.Dec.{eqb}
@@ -23,9 +23,9 @@ use Rattle.protocol.specs.declared.Load.{Load}
 use Rattle.client.specs.Frames.{commandHeader, sizeBytes, loadBody, blockBody}
 use Rattle.client.proofs.Proved.{client}
 use Rattle.client.specs.declared.Secret.{Secret}
-use Rattle.session.specs.Reading.{Good, joined, own, GoodLoad, Block, carried, programOf, Allowed, Starting}
+use Rattle.session.specs.Reading.{Good, own, GoodLoad, BlockFrame, carried, programOf, Allowed, Starting}
 use Rattle.session.specs.Reading as shape
-use Rattle.session.specs.Client.{frame, framesTo, frames, Made, IsLoad, IsBlock, ReadAs}
+use Rattle.session.specs.Client.{frame, framesTo, frames, Made, ProgramLoad, ProgramBlock, ReadAs}
 use Rattle.session.proofs.Frames.{All-append, own-more}
 use Rattle.session.proofs.Gathering.{length-snoc}
 use Rattle.session.proofs.Shapes.{carried-snoc}
@@ -101,7 +101,7 @@ module _ (prog : List ℕ) (id : ℕ) (secret : Secret) (made : Made prog id sec
       go true = rw (made .uss-length) (drop-at (secret .uss) (replicate 90 0) 32 (made .uss-length))
       go false = refl
 
-  pub is-load : shape.Load (frame prog id secret 0)
+  pub is-load : shape.LoadFrame (frame prog id secret 0)
   unfolding loadBody
   is-load = (body-length (commandHeader id) (loadBody (length prog) secret) (whole 0), refl)
 
@@ -130,7 +130,7 @@ module _ (prog : List ℕ) (id : ℕ) (secret : Secret) (made : Made prog id sec
   block-good : (k : ℕ) → Good (block-frame k)
   block-good k = subst Good (frame-suc k) (is-good (suc k))
 
-  pub is-block : (k : ℕ) → Block (block-frame k)
+  pub is-block : (k : ℕ) → BlockFrame (block-frame k)
   unfolding blockBody
   is-block k = (body-length (commandHeader id) (blockBody prog k) (ap length (sym (frame-suc k)) ∙ whole (suc k)), refl)
 
@@ -147,9 +147,9 @@ module _ (prog : List ℕ) (id : ℕ) (secret : Secret) (made : Made prog id sec
       ap (λ (x : List (List ℕ)). x ++ frame prog id secret (suc k) ∷ []) (frames-are k)
       ∙ ap (λ (f : List ℕ). frame prog id secret 0 ∷ (blocks-to k ++ f ∷ [])) (frame-suc k)
 
-  blocks-are : (k : ℕ) → All Block (blocks-to k)
+  blocks-are : (k : ℕ) → All BlockFrame (blocks-to k)
   blocks-are zero = tt
-  blocks-are (suc k) = All-append Block (blocks-to k) (block-frame k ∷ []) (blocks-are k) (is-block k, tt)
+  blocks-are (suc k) = All-append BlockFrame (blocks-to k) (block-frame k ∷ []) (blocks-are k) (is-block k, tt)
 
   blocks-good : (k : ℕ) → All Good (blocks-to k)
   blocks-good zero = tt
@@ -206,7 +206,7 @@ module _ (prog : List ℕ) (id : ℕ) (secret : Secret) (made : Made prog id sec
   unfolding commandHeader
   header-only h l e = ap written (sym (headers .exact h id firmware 128 .0 (l, e)))
 
-  is-load-frame : IsLoad prog id secret (frame prog id secret 0)
+  is-load-frame : ProgramLoad prog id secret (frame prog id secret 0)
   is-load-frame = record { header = frame-header; load = is-load; says = load-is; ignored = ignored }
 
   -- the body of the load, where the user secret is these 32 bytes
@@ -220,7 +220,7 @@ module _ (prog : List ℕ) (id : ℕ) (secret : Secret) (made : Made prog id sec
       go true = rw (made .uss-length)
       go false = refl
 
-  load-only : (f : List ℕ) → Bytes f → IsLoad prog id secret f → f ≡ frame prog id secret 0
+  load-only : (f : List ℕ) → Bytes f → ProgramLoad prog id secret f → f ≡ frame prog id secret 0
   unfolding loadIn word
   load-only [] b l = absurd (let w : 0 ≡ 128 = l .load .0 in omega arith)
   load-only (h ∷ []) b l = absurd (let w : 0 ≡ 128 = l .load .0 in omega arith)
@@ -239,10 +239,10 @@ module _ (prog : List ℕ) (id : ℕ) (secret : Secret) (made : Made prog id sec
       ∙ ap (λ (x : List ℕ). cond (secret .used) (secret .uss) (replicate 32 0) ++ x) (l .ignored) in
       rw (e, d, z .0, z .1, z .2, z .3, k, r, body-is)
 
-  is-block-frame : (k : ℕ) → IsBlock prog id secret k (block-frame k)
+  is-block-frame : (k : ℕ) → ProgramBlock prog id secret k (block-frame k)
   is-block-frame k = record { header = frame-header; block = is-block k; carries = carries k }
 
-  block-only : (k : ℕ) (f : List ℕ) → Bytes f → IsBlock prog id secret k f → f ≡ block-frame k
+  block-only : (k : ℕ) (f : List ℕ) → Bytes f → ProgramBlock prog id secret k f → f ≡ block-frame k
   unfolding blockBody
   block-only k [] b l = absurd (let w : 0 ≡ 128 = l .block .0 in omega arith)
   block-only k (h ∷ []) b l = absurd (let w : 0 ≡ 128 = l .block .0 in omega arith)
@@ -255,9 +255,9 @@ module _ (prog : List ℕ) (id : ℕ) (secret : Secret) (made : Made prog id sec
   pub reads : ReadAs prog id secret
   reads =
       record {
-        load = λ f b. (λ e. subst (IsLoad prog id secret) (sym e) is-load-frame, load-only f b);
+        load = λ f b. (λ e. subst (ProgramLoad prog id secret) (sym e) is-load-frame, load-only f b);
         block = λ k f b.
-            (λ e. subst (IsBlock prog id secret k) (sym (e ∙ frame-suc k)) (is-block-frame k), λ l. block-only k f b l ∙ sym (frame-suc k));
+            (λ e. subst (ProgramBlock prog id secret k) (sym (e ∙ frame-suc k)) (is-block-frame k), λ l. block-only k f b l ∙ sym (frame-suc k));
         taken = λ m. (load-fits m, load-good m);
       }
 
@@ -279,13 +279,13 @@ module _ (prog : List ℕ) (id : ℕ) (secret : Secret) (made : Made prog id sec
     all-frames : frames prog id secret ≡ frame prog id secret 0 ∷ blocks-to (suc last-number)
     all-frames = frames-are (blocksFor (length prog)) ∙ ap (λ (k : ℕ). frame prog id secret 0 ∷ blocks-to k) needed
 
-    pub reading : (heard : List ℕ) → heard ≡ joined (frames prog id secret) → Starting rec m heard
-    reading heard e =
+    pub reading : (received : List ℕ) → received ≡ flatten (frames prog id secret) → Starting rec m received
+    reading received e =
         record {
           before = frame prog id secret 0 ∷ blocks-to last-number;
           last = block-frame last-number;
           all-good = (is-good 0, blocks-good (suc last-number));
-          nothing-left = e ∙ ap joined all-frames;
+          nothing-left = e ∙ ap flatten all-frames;
           last-own = is-own;
           last-block = is-block last-number;
           opening = [];
@@ -300,15 +300,15 @@ module _ (prog : List ℕ) (id : ℕ) (secret : Secret) (made : Made prog id sec
         }
 
     -- its program and its load
-    pub reading-program : (heard : List ℕ) (e : heard ≡ joined (frames prog id secret)) → programOf (reading heard e .load) (reading heard e .blocks) ≡ prog
+    pub reading-program : (received : List ℕ) (e : received ≡ flatten (frames prog id secret)) → programOf (reading received e .load) (reading received e .blocks) ≡ prog
     unfolding reading
-    reading-program heard e = same-program
+    reading-program received e = same-program
 
-    pub reading-load : (heard : List ℕ) (e : heard ≡ joined (frames prog id secret))
-        → loadIn (reading heard e .load) ≡ loadWith (length prog) (cond (secret .used) 1 0) (cond (secret .used) (secret .uss) (replicate 32 0))
+    pub reading-load : (received : List ℕ) (e : received ≡ flatten (frames prog id secret))
+        → loadIn (reading received e .load) ≡ loadWith (length prog) (cond (secret .used) 1 0) (cond (secret .used) (secret .uss) (replicate 32 0))
     unfolding reading
-    reading-load heard e = load-is
+    reading-load received e = load-is
 
-    pub reading-last : (heard : List ℕ) (e : heard ≡ joined (frames prog id secret)) → getD (reading heard e .last) 0 0 ≡ commandHeader id
+    pub reading-last : (received : List ℕ) (e : received ≡ flatten (frames prog id secret)) → getD (reading received e .last) 0 0 ≡ commandHeader id
     unfolding reading
-    reading-last heard e = refl
+    reading-last received e = refl

@@ -2,13 +2,13 @@
 use Prim.Native.Nat.{ℕ, suc, _+_}
 use mathlib.Core.Path.{_≡_, refl, sym, ap, _∙_}
 use mathlib.Core.Bool.{Bool, true, false, cond}
-use mathlib.Core.List.{List, [], _∷_, _++_, append-assoc, append-nil, head-eq-of-cons-eq, tail-eq-of-cons-eq}
+use mathlib.Core.List.{List, [], _∷_, _++_, append-assoc, append-nil, head-eq-of-cons-eq, tail-eq-of-cons-eq, flatten}
 use native.Mathlib.Omega.{arith}
 use lib.ListN.{length}
 use Rattle.endian.proofs.Cases.{impossible}
 use Rattle.framing.specs.Header.{good}
 use Rattle.endian.specs.Lists.{All}
-use Rattle.session.specs.Reading.{Good, joined, forFirmware, own}
+use Rattle.session.specs.Reading.{Good, forFirmware, own}
 
 pub append-split : {A : Type 0} (a b x y : List A) → length a ≡ length b → a ++ x ≡ b ++ y → (a ≡ b) × (x ≡ y)
 append-split [] [] x y h e = (refl, e)
@@ -24,9 +24,10 @@ pub All-append : (P : List ℕ → Type 0) (fs gs : List (List ℕ)) → All P f
 All-append P [] gs a b = b
 All-append P (f ∷ fs) gs a b = (a .0, All-append P fs gs (a .1) b)
 
-pub joined-append : (fs gs : List (List ℕ)) → joined (fs ++ gs) ≡ joined fs ++ joined gs
-joined-append [] gs = refl
-joined-append (f ∷ fs) gs = ap (λ (r : List ℕ). f ++ r) (joined-append fs gs) ∙ sym (append-assoc f (joined fs) (joined gs))
+pub flatten-append : (fs gs : List (List ℕ)) → flatten (fs ++ gs) ≡ flatten fs ++ flatten gs
+unfolding flatten
+flatten-append [] gs = refl
+flatten-append (f ∷ fs) gs = ap (λ (r : List ℕ). f ++ r) (flatten-append fs gs) ∙ sym (append-assoc f (flatten fs) (flatten gs))
 
 pub own-append : (fs gs : List (List ℕ)) → own (fs ++ gs) ≡ own fs ++ own gs
 own-append [] gs = refl
@@ -37,8 +38,9 @@ own-append (f ∷ fs) gs = go (forFirmware f) (own-append fs gs)
     go false e = e
 
 -- one more frame at the end
-pub joined-snoc : (fs : List (List ℕ)) (f : List ℕ) → joined (fs ++ f ∷ []) ≡ joined fs ++ f
-joined-snoc fs f = joined-append fs (f ∷ []) ∙ ap (λ (r : List ℕ). joined fs ++ r) (append-nil f)
+pub flatten-snoc : (fs : List (List ℕ)) (f : List ℕ) → flatten (fs ++ f ∷ []) ≡ flatten fs ++ f
+unfolding flatten
+flatten-snoc fs f = flatten-append fs (f ∷ []) ∙ ap (λ (r : List ℕ). flatten fs ++ r) (append-nil f)
 
 pub own-more : (fs : List (List ℕ)) (f : List ℕ) → forFirmware f ≡ true → own (fs ++ f ∷ []) ≡ own fs ++ f ∷ []
 own-more fs f e = own-append fs (f ∷ []) ∙ ap (λ (x : Bool). own fs ++ cond x (f ∷ []) []) e
@@ -68,19 +70,20 @@ good-some g = let e : 0 ≡ 1 + g .n = g .whole in omega arith
 pub record Further (fs gs : List (List ℕ)) (p : List ℕ) : Type 0 where
   pub rest : List (List ℕ)
   pub frames : gs ≡ fs ++ rest
-  pub bytes : p ≡ joined rest
+  pub bytes : p ≡ flatten rest
   pub all-good : All Good rest
 
-pub reads-on : (fs gs : List (List ℕ)) (p : List ℕ) → All Good fs → All Good gs → joined fs ++ p ≡ joined gs → Further fs gs p
+pub reads-on : (fs gs : List (List ℕ)) (p : List ℕ) → All Good fs → All Good gs → flatten fs ++ p ≡ flatten gs → Further fs gs p
+unfolding flatten
 reads-on [] gs p a b e = record { rest = gs; frames = refl; bytes = e; all-good = b }
 reads-on ([] ∷ fs) gs p a b e = absurd (good-some (a .0))
 reads-on ((h ∷ f) ∷ fs) [] p a b e = impossible cc
 reads-on ((h ∷ f) ∷ fs) ([] ∷ gs) p a b e = absurd (good-some (b .0))
 reads-on ((h ∷ f) ∷ fs) ((k ∷ g) ∷ gs) p a b e =
     let eh : h ≡ k = head-eq-of-cons-eq e in
-    let et : f ++ (joined fs ++ p) ≡ g ++ joined gs = sym (append-assoc f (joined fs) p) ∙ tail-eq-of-cons-eq e in
+    let et : f ++ (flatten fs ++ p) ≡ g ++ flatten gs = sym (append-assoc f (flatten fs) p) ∙ tail-eq-of-cons-eq e in
     let l : length f ≡ length g = good-lengths k f g (rw (← eh) (a .0)) (b .0) in
-    let s = append-split f g (joined fs ++ p) (joined gs) l et in
+    let s = append-split f g (flatten fs ++ p) (flatten gs) l et in
     let r = reads-on fs gs p (a .1) (b .1) (s .1) in
     let ef : f ≡ g = s .0 in
     let er : gs ≡ fs ++ r .rest = r .frames in

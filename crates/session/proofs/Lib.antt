@@ -7,7 +7,7 @@ pub mod Calls
 pub mod Walk
 pub mod Begins
 pub mod ClientFrames
-pub mod Feeding
+pub mod Sending
 pub mod Strings
 pub mod Proved
 pub mod Positions

@@ -2,7 +2,7 @@
 use Prim.Native.Nat.{ℕ, zero, suc, _+_, _*_, _<_}
 use mathlib.Core.Path.{_≡_, refl, sym, ap, _∙_, subst}
 use mathlib.Core.Bool.{Bool, true, false}
-use mathlib.Core.List.{List, [], _∷_, _++_, append-assoc, head-eq-of-cons-eq}
+use mathlib.Core.List.{List, [], _∷_, _++_, append-assoc, head-eq-of-cons-eq, flatten}
 use native.Mathlib.Omega.{arith}
 use lib.ListN.{length, getD, length-append, List·getD-append}
 use lib.Dec.{eqb}
@@ -12,7 +12,7 @@ use Rattle.endian.proofs.Cases.{impossible}
 use Rattle.client.specs.Frames.{commandHeader}
 use Rattle.client.specs.declared.Secret.{Secret}
 use Rattle.endian.specs.Lists.{All}
-use Rattle.session.specs.Reading.{Good, joined}
+use Rattle.session.specs.Reading.{Good}
 use Rattle.session.specs.Client.{frame, framesTo, Made}
 use Rattle.session.proofs.Frames.{All-append, append-split, Further, reads-on}
 use Rattle.session.proofs.Gathering.{length-snoc}
@@ -26,9 +26,10 @@ all-front P (f ∷ fs) gs a = (a .0, all-front P fs gs (a .1))
 abbrev Sized : List ℕ → Type 0
 Sized f = length f ≡ 129
 
-joined-length : (fs : List (List ℕ)) → All Sized fs → length (joined fs) ≡ 129 * length fs
-joined-length [] a = refl
-joined-length (f ∷ fs) a = length-append f (joined fs) ∙ omega (arith, joined-length fs (a .1), a .0)
+flatten-length : (fs : List (List ℕ)) → All Sized fs → length (flatten fs) ≡ 129 * length fs
+unfolding flatten
+flatten-length [] a = refl
+flatten-length (f ∷ fs) a = length-append f (flatten fs) ∙ omega (arith, flatten-length fs (a .1), a .0)
 
 module _ (prog : List ℕ) (id : ℕ) (secret : Secret) (made : Made prog id secret) where
   abbrev upTo : ℕ → List (List ℕ)
@@ -46,8 +47,8 @@ module _ (prog : List ℕ) (id : ℕ) (secret : Secret) (made : Made prog id sec
   all-sized zero = tt
   all-sized (suc k) = All-append Sized (upTo k) (frame prog id secret k ∷ []) (all-sized k) (whole prog id secret made k, tt)
 
-  pub total : (k : ℕ) → length (joined (upTo k)) ≡ 129 * k
-  total k = joined-length (upTo k) (all-sized k) ∙ ap (λ (n : ℕ). 129 * n) (count k)
+  pub total : (k : ℕ) → length (flatten (upTo k)) ≡ 129 * k
+  total k = flatten-length (upTo k) (all-sized k) ∙ ap (λ (n : ℕ). 129 * n) (count k)
 
   -- the frame at a place
   nth : (k j : ℕ) → j < k → getD (upTo k) j [] ≡ frame prog id secret j
@@ -69,26 +70,27 @@ module _ (prog : List ℕ) (id : ℕ) (secret : Secret) (made : Made prog id sec
     pub header : h ≡ commandHeader id
     pub same : length p ≡ 128 → h ∷ p ≡ frame prog id secret (length fs)
 
-  pub place : (k : ℕ) (bs rest : List ℕ) (fs : List (List ℕ)) (h : ℕ) (p : List ℕ) → All Good fs → bs ≡ joined fs ++ h ∷ p → bs ++ rest ≡ joined (upTo k)
+  pub place : (k : ℕ) (bs rest : List ℕ) (fs : List (List ℕ)) (h : ℕ) (p : List ℕ) → All Good fs → bs ≡ flatten fs ++ h ∷ p → bs ++ rest ≡ flatten (upTo k)
       → Place k bs fs h p
+  unfolding flatten
   place k bs rest fs h p a w e = go (u .rest) (u .frames) (u .bytes)
     where
       u : Further fs (upTo k) (h ∷ (p ++ rest))
       u =
           reads-on fs (upTo k) (h ∷ (p ++ rest)) a (all-good k)
-          (sym (append-assoc (joined fs) (h ∷ p) rest) ∙ ap (λ (x : List ℕ). x ++ rest) (sym w) ∙ e)
+          (sym (append-assoc (flatten fs) (h ∷ p) rest) ∙ ap (λ (x : List ℕ). x ++ rest) (sym w) ∙ e)
 
-      go : (r : List (List ℕ)) → upTo k ≡ fs ++ r → h ∷ (p ++ rest) ≡ joined r → Place k bs fs h p
+      go : (r : List (List ℕ)) → upTo k ≡ fs ++ r → h ∷ (p ++ rest) ≡ flatten r → Place k bs fs h p
       go [] f b = impossible cc
       go (g ∷ gs) f b =
           let c : k ≡ length fs + suc (length gs) = sym (count k) ∙ ap length f ∙ length-append fs (g ∷ gs) in
           let l : length fs < k = omega arith in
           let q : g ≡ frame prog id secret (length fs) =
           sym (getD-append-seam fs g gs []) ∙ ap (λ (x : List (List ℕ)). getD x (length fs) []) (sym f) ∙ nth k (length fs) l in
-          let n : length (joined fs) ≡ 129 * length fs = joined-length fs (all-front Sized fs (g ∷ gs) (subst (All Sized) f (all-sized k))) in
-          let b′ : h ∷ (p ++ rest) ≡ frame prog id secret (length fs) ++ joined gs = b ∙ ap (λ (x : List ℕ). x ++ joined gs) q in
+          let n : length (flatten fs) ≡ 129 * length fs = flatten-length fs (all-front Sized fs (g ∷ gs) (subst (All Sized) f (all-sized k))) in
+          let b′ : h ∷ (p ++ rest) ≡ frame prog id secret (length fs) ++ flatten gs = b ∙ ap (λ (x : List ℕ). x ++ flatten gs) q in
           record {
-            so-far = ap length w ∙ length-append (joined fs) (h ∷ p) ∙ ap (λ (i : ℕ). i + suc (length p)) n;
+            so-far = ap length w ∙ length-append (flatten fs) (h ∷ p) ∙ ap (λ (i : ℕ). i + suc (length p)) n;
             header = head-eq-of-cons-eq b′;
-            same = λ s. append-split (h ∷ p) (frame prog id secret (length fs)) rest (joined gs) (let z = whole prog id secret made (length fs) in omega arith) b′ .0;
+            same = λ s. append-split (h ∷ p) (frame prog id secret (length fs)) rest (flatten gs) (let z = whole prog id secret made (length fs) in omega arith) b′ .0;
           }

@@ -4,7 +4,7 @@ use mathlib.Core.Path.{_≡_, refl, sym, ap, _∙_, subst}
 use mathlib.Core.Logic.{_⊎_, inl, inr, _↔_}
 use mathlib.Core.Bool.{Bool, true, false, cond, _||_}
 use mathlib.Core.Option.{none, some}
-use mathlib.Core.List.{List, [], _∷_, _++_, append-nil, tail-eq-of-cons-eq, head-eq-of-cons-eq, List·Memᴰ, List·Memᴰ·head, List·Memᴰ·tail, List·Memᴰ·not-nil, List·Memᴰ·cases-cons}
+use mathlib.Core.List.{List, [], _∷_, _++_, append-nil, tail-eq-of-cons-eq, head-eq-of-cons-eq, List·Memᴰ, List·Memᴰ·head, List·Memᴰ·tail, List·Memᴰ·not-nil, List·Memᴰ·cases-cons, flatten}
 use native.Mathlib.Omega.{arith}
 use lib.ListN.{length, getD, replicate, length-append}
 use Rattle.endian.proofs.Cases.{impossible}
@@ -26,7 +26,7 @@ use Rattle.head.specs.Begin.{waiting, beginning}
 use Rattle.endian.proofs.Words.{bytes-length}
 use Rattle.head.proofs.Proved.{head-theorems}
 use Rattle.endian.specs.Lists.{All, Words}
-use Rattle.session.specs.Reading.{Good, joined, own, digestOf, Allowed, chained, measuredId, Starting}
+use Rattle.session.specs.Reading.{Good, own, digestOf, Allowed, chained, measuredId, Starting}
 use Rattle.session.specs.Session.{Entry, Among, isAccepted, receivedBytes, Session, allOf, acceptedOf, hasEnded, refusalIn}
 use Rattle.session.specs.Client.{frames, Made}
 use Rattle.session.specs.Boot.{StartedAt, Started, Reads, used, Start, stringAt, Gives, Same, StartOf, VerifiedBoot}
@@ -37,7 +37,7 @@ use Rattle.session.proofs.Calls.{Live}
 use Rattle.session.proofs.Walk.{Walk, walk, Begun}
 use Rattle.session.proofs.Begins.{Fresh, fresh, Runs, table-from}
 use Rattle.session.proofs.ClientFrames as made
-use Rattle.session.proofs.Feeding.{feed, one-ram, same-uds, Fed, fed}
+use Rattle.session.proofs.Sending.{callsFor, one-ram, same-uds, AllAccepted, all-accepted}
 use Rattle.session.proofs.Strings.{same-words, digest-length, id-length, uss-length, same-secret}
 use Rattle.head.specs.declared.State.{State}
 
@@ -66,12 +66,13 @@ last-same [] (y ∷ ys) a b e = absurd (let l : 0 ≡ length (ys ++ b ∷ []) = 
 last-same (x ∷ xs) [] a b e = absurd (let l : length (xs ++ a ∷ []) ≡ 0 = ap length (tail-eq-of-cons-eq e) in let k = length-append xs (a ∷ []) in omega arith)
 last-same (x ∷ xs) (y ∷ ys) a b e = last-same xs ys a b (tail-eq-of-cons-eq e)
 
-no-frames : (hs : List (List ℕ)) → All Good hs → [] ≡ joined hs → hs ≡ []
+no-frames : (hs : List (List ℕ)) → All Good hs → [] ≡ flatten hs → hs ≡ []
+unfolding flatten
 no-frames [] a e = refl
 no-frames ([] ∷ hs) a e = absurd (let l : 0 ≡ 1 + a .0 .n = a .0 .whole in omega arith)
 no-frames ((h ∷ f) ∷ hs) a e = impossible cc
 
-module _ (rec : List ℕ) (m : ℕ) (heard : List ℕ) (w w′ : Starting rec m heard) where
+module _ (rec : List ℕ) (m : ℕ) (received : List ℕ) (w w′ : Starting rec m received) where
   same-frames : w .before ++ w .last ∷ [] ≡ w′ .before ++ w′ .last ∷ []
   same-frames =
       let u = reads-on (w′ .before ++ w′ .last ∷ []) (w .before ++ w .last ∷ []) [] (w′ .all-good) (w .all-good) (append-nil _ ∙ sym (w′ .nothing-left) ∙ w .nothing-left) in
@@ -94,6 +95,7 @@ one-string rec uds l l′ b b′ p q = rw (p, q)
 -- ---- a session
 
 pub first-live : (rec udi : List ℕ) (m : ℕ) (r : List ℕ) → Fresh rec udi m → Live rec udi m [] (beginning rec udi m .state) r
+unfolding flatten
 first-live rec udi m r f =
     record { frames = []; part = []; all-good = tt; whole = refl; partial = tt; progress = waiting; state = f .state; doing = is-waiting tt }
 
@@ -194,7 +196,7 @@ module _ (rec udi ram uds prog : List ℕ) (id : ℕ) (secret : Secret) (makes :
   fresh-head = fresh rec udi (length ram) accepts client
 
   abbrev sent : List ℕ
-  sent = joined (frames prog id secret)
+  sent = flatten (frames prog id secret)
 
   -- the session in which the head is sent these frames
   abbrev pub session : Session
@@ -205,21 +207,21 @@ module _ (rec udi ram uds prog : List ℕ) (id : ℕ) (secret : Secret) (makes :
         ramLen = length ram;
         begins = accepts;
         client = client;
-        calls = feed uds typed sent (beginning rec udi (length ram) .state) ram;
+        calls = callsFor uds typed sent (beginning rec udi (length ram) .state) ram;
         ram = ram;
         one-ram = one-ram uds typed sent (beginning rec udi (length ram) .state) ram;
       }
 
-  pub all-fed : Fed uds typed rec udi (length ram) eight sent (allOf session)
-  all-fed =
-      fed uds typed rec udi (length ram) eight sent [] (beginning rec udi (length ram) .state) ram (first-live rec udi (length ram) ram fresh-head)
+  pub sent-accepted : AllAccepted uds typed rec udi (length ram) eight sent (allOf session)
+  sent-accepted =
+      all-accepted uds typed rec udi (length ram) eight sent [] (beginning rec udi (length ram) .state) ram (first-live rec udi (length ram) ram fresh-head)
       (first-runs rec udi (length ram) fresh-head) refl (made.reading prog id secret makes rec (length ram) fits allows sent refl)
 
-  all-heard : receivedBytes (acceptedOf session) ≡ sent
-  all-heard = ap receivedBytes (all-fed .none-refused) ∙ all-fed .all-bytes
+  all-received : receivedBytes (acceptedOf session) ≡ sent
+  all-received = ap receivedBytes (sent-accepted .none-refused) ∙ sent-accepted .all-bytes
 
   abbrev reading : Reads session
-  reading = made.reading prog id secret makes rec (length ram) fits allows (receivedBytes (acceptedOf session)) all-heard
+  reading = made.reading prog id secret makes rec (length ram) fits allows (receivedBytes (acceptedOf session)) all-received
 
   -- the flag of the load says whether there is a user secret
   secret-of : (l : Load) (v : Bool) → l ≡ loadWith (length prog) (cond v 1 0) (cond v (secret .uss) (replicate 32 0))
@@ -237,10 +239,10 @@ module _ (rec udi ram uds prog : List ℕ) (id : ℕ) (secret : Secret) (makes :
         same-udi = refl;
         same-length = refl;
         same-ram = refl;
-        same-uds = same-uds uds typed sent (beginning rec udi (length ram) .state) ram (t .0) (subst (List·Memᴰ (t .0)) (all-fed .none-refused) (mem-of (acceptedOf session) (t .0) (t .1 .among)));
-        same-program = made.reading-program prog id secret makes rec (length ram) fits allows (receivedBytes (acceptedOf session)) all-heard;
-        same-secret = secret-of (loadIn (reading .load)) (secret .used) (made.reading-load prog id secret makes rec (length ram) fits allows (receivedBytes (acceptedOf session)) all-heard);
-        none-refused = all-fed .none-refused;
+        same-uds = same-uds uds typed sent (beginning rec udi (length ram) .state) ram (t .0) (subst (List·Memᴰ (t .0)) (sent-accepted .none-refused) (mem-of (acceptedOf session) (t .0) (t .1 .among)));
+        same-program = made.reading-program prog id secret makes rec (length ram) fits allows (receivedBytes (acceptedOf session)) all-received;
+        same-secret = secret-of (loadIn (reading .load)) (secret .used) (made.reading-load prog id secret makes rec (length ram) fits allows (receivedBytes (acceptedOf session)) all-received);
+        none-refused = sent-accepted .none-refused;
       }
 
 exists : (rec udi ram uds prog : List ℕ) (flag : Bool) (uss : List ℕ)

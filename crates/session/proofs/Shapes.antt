@@ -14,7 +14,7 @@ use Rattle.protocol.proofs.Proved.{protocol}
 use Rattle.head.specs.Machine.{actionWaiting, actionLoading}
 use Rattle.head.proofs.Ranges.{never}
 use Rattle.endian.specs.Lists.{All}
-use Rattle.session.specs.Reading.{bodyOf, Query, Load, GoodLoad, Opens, Block, carried, sizeOf}
+use Rattle.session.specs.Reading.{bodyOf, QueryFrame, LoadFrame, GoodLoad, Opens, BlockFrame, carried, sizeOf}
 use Rattle.head.specs.declared.Action.{Action}
 use Rattle.head.specs.declared.Action.the-variants as action
 
@@ -22,11 +22,11 @@ use Rattle.head.specs.declared.Action.the-variants as action
 
 -- while waiting
 pub data AskedWaiting (f : List ℕ) : Action → Type 0 where
-  asks-name : Query f → AskedWaiting f action.AnswerName
-  asks-udi : Query f → AskedWaiting f action.AnswerUdi
-  asks-load : Load f → AskedWaiting f action.TakeLoad
-  wrong-command : (Query f → ⊥) → (Load f → ⊥) → AskedWaiting f action.StopCommand
-  wrong-length : (Query f → ⊥) → (Load f → ⊥) → AskedWaiting f action.StopLength
+  asks-name : QueryFrame f → AskedWaiting f action.AnswerName
+  asks-udi : QueryFrame f → AskedWaiting f action.AnswerUdi
+  asks-load : LoadFrame f → AskedWaiting f action.TakeLoad
+  wrong-command : (QueryFrame f → ⊥) → (LoadFrame f → ⊥) → AskedWaiting f action.StopCommand
+  wrong-length : (QueryFrame f → ⊥) → (LoadFrame f → ⊥) → AskedWaiting f action.StopLength
 
 pub asked-waiting : (f : List ℕ) → AskedWaiting f (actionWaiting (commandIn f) (length (bodyOf f)))
 asked-waiting f = go (eqb c 0x01) (eqb c 0x08) (eqb c 0x03) (eqb n 1) (eqb n 128) refl refl refl refl refl
@@ -55,9 +55,9 @@ asked-waiting f = go (eqb c 0x01) (eqb c 0x08) (eqb c 0x03) (eqb n 1) (eqb n 128
 
 -- while loading
 pub data AskedLoading (f : List ℕ) : Action → Type 0 where
-  asks-block : Block f → AskedLoading f action.TakeBlock
-  no-command : (Block f → ⊥) → AskedLoading f action.StopCommand
-  no-length : (Block f → ⊥) → AskedLoading f action.StopLength
+  asks-block : BlockFrame f → AskedLoading f action.TakeBlock
+  no-command : (BlockFrame f → ⊥) → AskedLoading f action.StopCommand
+  no-length : (BlockFrame f → ⊥) → AskedLoading f action.StopLength
 
 pub asked-loading : (f : List ℕ) → AskedLoading f (actionLoading (commandIn f) (length (bodyOf f)))
 asked-loading f = go (eqb c 0x05) (eqb n 128) refl refl
@@ -87,7 +87,7 @@ module _ (m : ℕ) where
     pub order : os ≡ opening ++ load ∷ blocks
     pub opens : All (Opens m) opening
     pub loads : GoodLoad m load
-    pub carry : All Block blocks
+    pub carry : All BlockFrame blocks
 
   -- two readings of the same frames
   pub one-shape : (xs ys : List (List ℕ)) (l k : List ℕ) (bs cs : List (List ℕ)) → All (Opens m) xs → All (Opens m) ys → GoodLoad m l → GoodLoad m k
@@ -127,10 +127,10 @@ carried-append (f ∷ bs) cs = ap (λ (r : List ℕ). carriedBy f ++ r) (carried
 pub carried-snoc : (bs : List (List ℕ)) (f : List ℕ) → carried (bs ++ f ∷ []) ≡ carried bs ++ carriedBy f
 carried-snoc bs f = carried-append bs (f ∷ []) ∙ ap (λ (r : List ℕ). carried bs ++ r) (append-nil (carriedBy f))
 
-pub carries-127 : (f : List ℕ) → Block f → length (carriedBy f) ≡ 127
+pub carries-127 : (f : List ℕ) → BlockFrame f → length (carriedBy f) ≡ 127
 carries-127 f b = let l : length (drop 1 f) ≡ 128 = b .0 in omega (arith, length-drop 1 f, length-drop 2 f)
 
-pub carried-length : (bs : List (List ℕ)) → All Block bs → length (carried bs) ≡ 127 * length bs
+pub carried-length : (bs : List (List ℕ)) → All BlockFrame bs → length (carried bs) ≡ 127 * length bs
 carried-length [] a = refl
 carried-length (f ∷ bs) a = length-append (carriedBy f) (carried bs) ∙ omega (arith, carried-length bs (a .1), carries-127 f (a .0))
 

@@ -13,7 +13,7 @@ use Rattle.endian.proofs.Lists.{getD-each}
 use Rattle.endian.proofs.Words.{bytes-length}
 use Rattle.head.proofs.Ranges.{never}
 use Rattle.protocol.specs.Commands.{loadIn}
-use Rattle.session.specs.Reading.{Load, measuredId}
+use Rattle.session.specs.Reading.{LoadFrame, measuredId}
 use Rattle.endian.specs.Lists.{Words}
 
 -- byte j of word k
@@ -69,7 +69,7 @@ digest-length msg = first-32 (bytes (state msg)) (bytes-length 32 (state msg))
 pub id-length : (rec : List ℕ) → length rec ≡ 256 → length (measuredId rec) ≡ 32
 id-length rec l = length-take 32 (drop 40 rec) ∙ omega (arith, length-drop 40 rec)
 
-pub uss-length : (f : List ℕ) → Load f → length (loadIn f .uss) ≡ 32
+pub uss-length : (f : List ℕ) → LoadFrame f → length (loadIn f .uss) ≡ 32
 unfolding loadIn
 uss-length f l = let b : length (drop 1 f) ≡ 128 = l .0 in length-take 32 (drop 7 f) ∙ omega (arith, length-drop 7 f, length-drop 1 f)
 

@@ -36,7 +36,7 @@ Reads S = Starting (S .rec) (S .ramLen) (receivedBytes (acceptedOf S))
 
 -- ---- a start, by the reading of its session
 
-module _ {rec : List ℕ} {m : ℕ} {heard : List ℕ} (w : Starting rec m heard) where
+module _ {rec : List ℕ} {m : ℕ} {received : List ℕ} (w : Starting rec m received) where
   abbrev pub used : Bool
   used = usesUss (loadIn (w .load))
 
@@ -54,8 +54,8 @@ module _ {rec : List ℕ} {m : ℕ} {heard : List ℕ} (w : Starting rec m heard
   measurement = measurementOf (chained rec) (measuredId rec) digest
 
   -- the string of a start, from the UDS at entry to the starting call
-  abbrev pub stringOf : List ℕ → List ℕ
-  stringOf uds = cdiString (bytes uds) (chained rec) (measuredId rec) digest used (loadIn (w .load) .uss)
+  abbrev pub startString : List ℕ → List ℕ
+  startString uds = cdiString (bytes uds) (chained rec) (measuredId rec) digest used (loadIn (w .load) .uss)
 
 pub record Start (S : Session) : Type 0 where
   pub entry : Entry
@@ -63,7 +63,7 @@ pub record Start (S : Session) : Type 0 where
   pub reading : Reads S
 
 abbrev pub stringAt : {S : Session} → Start S → List ℕ
-stringAt t = stringOf (t .reading) (t .entry .call .uds)
+stringAt t = startString (t .reading) (t .entry .call .uds)
 
 -- what the starting call gives and leaves
 pub record Gives {S : Session} (t : Start S) : Type 0 where
@@ -108,7 +108,7 @@ pub record VerifiedBoot : Type 0 where
   -- every start gives what it should, and the reading of its bytes is one
   pub gives : (S : Session) (t : Start S) → Gives t
   pub one-reading : (S : Session) (w w′ : Reads S) → (w .opening ≡ w′ .opening) × (w .load ≡ w′ .load) × (w .blocks ≡ w′ .blocks)
-      × ((uds : List ℕ) → stringOf w uds ≡ stringOf w′ uds)
+      × ((uds : List ℕ) → startString w uds ≡ startString w′ uds)
   -- two starts of one head or of two, the strings of which are equal
   pub injective : (S S′ : Session) (t : Start S) (t′ : Start S′) → stringAt t ≡ stringAt t′ → Same t t′
   -- every call of the list answers a number of refusal exactly when the table says so

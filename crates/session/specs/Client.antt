@@ -4,7 +4,7 @@ use Prim.Native.Nat.{ℕ, zero, suc, _/_, _%_, _≤_}
 use mathlib.Core.Path.{_≡_}
 use mathlib.Core.Logic.{_↔_, _⊎_}
 use mathlib.Core.Bool.{true, false, cond}
-use mathlib.Core.List.{List, [], _∷_, _++_}
+use mathlib.Core.List.{List, [], _∷_, _++_, flatten}
 use lib.Dec.{eqb}
 use lib.ListN.{length, getD, take, drop, replicate}
 use Rattle.rfc7693.specs.Rfc7693.{blake2s}
@@ -20,7 +20,7 @@ use Rattle.head.specs.Begin.{beginning}
 use Rattle.client.specs.Frames.{refusal, commandFrame}
 use Rattle.client.specs.Replies.{takingAs, taking}
 use Rattle.client.specs.declared.Secret.{Secret}
-use Rattle.session.specs.Reading.{joined, Load, GoodLoad, Block, Allowed, chained, measuredId}
+use Rattle.session.specs.Reading.{LoadFrame, GoodLoad, BlockFrame, Allowed, chained, measuredId}
 use Rattle.session.specs.Session.{Entry, Among, isAccepted, receivedBytes, Session, allOf, acceptedOf, hasEnded}
 use Rattle.session.specs.Boot.{Start}
 
@@ -48,22 +48,22 @@ module _ (program : List ℕ) (id : ℕ) (secret : Secret) where
   -- ---- the frames by document 01's reading
 
   -- the load of this program: size, flag and user secret, which is zeros where it is not used, as is all that is ignored
-  pub record IsLoad (f : List ℕ) : Type 0 where
+  pub record ProgramLoad (f : List ℕ) : Type 0 where
     pub header : headerAt (getD f 0 0) ≡ good id firmware 128
-    pub load : Load f
+    pub load : LoadFrame f
     pub says : loadIn f ≡ loadWith (length program) (cond (secret .used) 1 0) (cond (secret .used) (secret .uss) (replicate 32 0))
     pub ignored : drop 39 f ≡ replicate 90 0
 
   -- its block k: it carries the program from the block's place on, filled up with zeros
-  pub record IsBlock (k : ℕ) (f : List ℕ) : Type 0 where
+  pub record ProgramBlock (k : ℕ) (f : List ℕ) : Type 0 where
     pub header : headerAt (getD f 0 0) ≡ good id firmware 128
-    pub block : Block f
+    pub block : BlockFrame f
     pub carries : carriedBy f ≡ padded 127 (take 127 (drop (placeOf k) program))
 
   -- the frames that are made are these, and no other bytes are
   pub record ReadAs : Type 0 where
-    pub load : (f : List ℕ) → Bytes f → (f ≡ frame 0) ↔ IsLoad f
-    pub block : (k : ℕ) (f : List ℕ) → Bytes f → (f ≡ frame (suc k)) ↔ IsBlock k f
+    pub load : (f : List ℕ) → Bytes f → (f ≡ frame 0) ↔ ProgramLoad f
+    pub block : (k : ℕ) (f : List ℕ) → Bytes f → (f ≡ frame (suc k)) ↔ ProgramBlock k f
     -- the load is good exactly where RAM has room for the program: no flag that is made is a bad one
     pub taken : (m : ℕ) → GoodLoad m (frame 0) ↔ (length program ≤ m)
 
@@ -71,10 +71,10 @@ module _ (program : List ℕ) (id : ℕ) (secret : Secret) where
 
   -- a session of a fresh head of type 4 or 5 in which it received these frames and no call was refused: RAM has room for the program, and type 5
   -- requires its digest
-  pub record Heard (S : Session) : Type 0 where
+  pub record ReceivesFrames (S : Session) : Type 0 where
     pub fits : length program ≤ S .ramLen
     pub allowed : Allowed (S .rec) programDigest
-    pub bytes : receivedBytes (allOf S) ≡ joined frames
+    pub bytes : receivedBytes (allOf S) ≡ flatten frames
     pub none-refused : acceptedOf S ≡ allOf S
 
   -- the digest that the reply to frame k gives: the program's with the last one, and otherwise none, which is zeros
@@ -103,9 +103,9 @@ module _ (program : List ℕ) (id : ℕ) (secret : Secret) where
 
 pub record ClientLoad : Type 0 where
   pub reads : (program : List ℕ) (id : ℕ) (secret : Secret) → Made program id secret → ReadAs program id secret
-  pub loads : (program : List ℕ) (id : ℕ) (secret : Secret) → Made program id secret → (S : Session) → Heard program id secret S → Loads program id secret S
+  pub loads : (program : List ℕ) (id : ℕ) (secret : Secret) → Made program id secret → (S : Session) → ReceivesFrames program id secret S → Loads program id secret S
   -- there is such a session for every record, UDI, RAM and UDS that allow it
   pub exists : (program : List ℕ) (id : ℕ) (secret : Secret) → Made program id secret → (rec udi ram uds : List ℕ)
       → isAccepted (beginning rec udi (length ram) .report) ≡ true → (numberIn typeField rec ≡ 4) ⊎ (numberIn typeField rec ≡ 5)
       → length uds ≡ 8 → Words uds → length program ≤ length ram → Allowed rec (blake2s [] program 32)
-      → (S : Session) × Heard program id secret S × (S .rec ≡ rec) × (S .udi ≡ udi) × (S .ram ≡ ram)
+      → (S : Session) × ReceivesFrames program id secret S × (S .rec ≡ rec) × (S .udi ≡ udi) × (S .ram ≡ ram)

@@ -4,7 +4,7 @@ use Prim.Native.Nat.{ℕ, _+_}
 use mathlib.Core.Path.{_≡_}
 use mathlib.Core.Logic.{_⊎_}
 use mathlib.Core.Bool.{Bool, true, false, cond}
-use mathlib.Core.List.{List, [], _∷_, _++_}
+use mathlib.Core.List.{List, [], _∷_, _++_, flatten}
 use lib.Dec.{eqb}
 use lib.ListN.{length, getD, take, drop}
 use Rattle.endian.specs.Lists.{All}
@@ -21,11 +21,6 @@ pub record Good (f : List ℕ) : Type 0 where
   pub header : headerAt (getD f 0 0) ≡ good id ep n
   pub whole : length f ≡ 1 + n
 
--- the bytes of frames one after the other
-abbrev pub joined : List (List ℕ) → List ℕ
-joined [] = []
-joined (f ∷ fs) = f ++ joined fs
-
 -- a frame with endpoint 2
 abbrev pub forFirmware : List ℕ → Bool
 forFirmware f = eqb (inField endpoint (getD f 0 0)) firmware
@@ -39,27 +34,27 @@ abbrev pub bodyOf : List ℕ → List ℕ
 bodyOf f = drop 1 f
 
 -- a query has a body of 1 byte, 0x01 or 0x08
-abbrev pub Query : List ℕ → Type 0
-Query f = (length (bodyOf f) ≡ 1) × ((commandIn f ≡ 0x01) ⊎ (commandIn f ≡ 0x08))
+abbrev pub QueryFrame : List ℕ → Type 0
+QueryFrame f = (length (bodyOf f) ≡ 1) × ((commandIn f ≡ 0x01) ⊎ (commandIn f ≡ 0x08))
 
 -- a load has a body of 128 that begins with 0x03
-abbrev pub Load : List ℕ → Type 0
-Load f = (length (bodyOf f) ≡ 128) × (commandIn f ≡ 0x03)
+abbrev pub LoadFrame : List ℕ → Type 0
+LoadFrame f = (length (bodyOf f) ≡ 128) × (commandIn f ≡ 0x03)
 
 -- good or bad by its size and its flag; m is the RAM's length at begin
 abbrev pub GoodLoad : ℕ → List ℕ → Type 0
-GoodLoad m f = Load f × (goodLoad m (loadIn f) ≡ true)
+GoodLoad m f = LoadFrame f × (goodLoad m (loadIn f) ≡ true)
 
 abbrev pub BadLoad : ℕ → List ℕ → Type 0
-BadLoad m f = Load f × (goodLoad m (loadIn f) ≡ false)
+BadLoad m f = LoadFrame f × (goodLoad m (loadIn f) ≡ false)
 
 -- what may come before the good load
 abbrev pub Opens : ℕ → List ℕ → Type 0
-Opens m f = Query f ⊎ BadLoad m f
+Opens m f = QueryFrame f ⊎ BadLoad m f
 
 -- a block has a body of 128 that begins with 0x05 and carries the other 127 bytes
-abbrev pub Block : List ℕ → Type 0
-Block f = (length (bodyOf f) ≡ 128) × (commandIn f ≡ 0x05)
+abbrev pub BlockFrame : List ℕ → Type 0
+BlockFrame f = (length (bodyOf f) ≡ 128) × (commandIn f ≡ 0x05)
 
 -- the bytes that blocks carry, in order
 abbrev pub carried : List (List ℕ) → List ℕ
@@ -89,14 +84,14 @@ abbrev pub measuredId : List ℕ → List ℕ
 measuredId rec = fieldOf measuredIdField rec
 
 -- the accepted bytes of a session that has started, for the record and the RAM's length at begin
-pub record Starting (rec : List ℕ) (m : ℕ) (heard : List ℕ) : Type 0 where
+pub record Starting (rec : List ℕ) (m : ℕ) (received : List ℕ) : Type 0 where
   -- whole good frames one after the other, with nothing left over, and the last is a block
   pub before : List (List ℕ)
   pub last : List ℕ
   pub all-good : All Good (before ++ last ∷ [])
-  pub nothing-left : heard ≡ joined (before ++ last ∷ [])
+  pub nothing-left : received ≡ flatten (before ++ last ∷ [])
   pub last-own : forFirmware last ≡ true
-  pub last-block : Block last
+  pub last-block : BlockFrame last
   -- of those with endpoint 2: queries and bad loads in any order and number, one good load, then blocks
   pub opening : List (List ℕ)
   pub load : List ℕ
@@ -104,7 +99,7 @@ pub record Starting (rec : List ℕ) (m : ℕ) (heard : List ℕ) : Type 0 where
   pub order : own (before ++ last ∷ []) ≡ opening ++ load ∷ blocks
   pub opens : All (Opens m) opening
   pub loads : GoodLoad m load
-  pub carry : All Block blocks
+  pub carry : All BlockFrame blocks
   -- n needs ceil(n / 127) of them
   pub enough : length blocks ≡ blocksFor (sizeOf load)
   -- where a digest is required, the first n bytes carried have it

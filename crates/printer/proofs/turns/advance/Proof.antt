@@ -8,7 +8,7 @@ returns : tie.Need-returns
 returns c = rw (c .before .enum-told .given .1) (c .wait .ensures, refl)
 
 returns-2 : tie.Need-returns-2
-returns-2 c = rw (c .before .before .before .before .before .next .given .1) (c .before .before .hear .ensures)
+returns-2 c = rw (c .before .before .before .before .before .next .given .1) (c .before .before .receive .ensures)
 
 pub advance-spec : {M : Type 1} → statement M
 advance-spec =

@@ -1,4 +1,4 @@
--- The last line says how many bytes were heard.
+-- The last line says how many bytes were received.
 use mathlib.Core.List.{[]}
 use borrow.Author.Needs.{needs}
 use Rattle.printer.proofs.turns.wait.Statement.{statement}

@@ -22,15 +22,15 @@ module _ (uds : List ℕ) (typed : Words uds) where
   abbrev pub sending : ℕ → List ℕ → Call
   sending b r = record { byte = b; room = zeros 129; ram = r; uds = uds; words = typed }
 
-  abbrev pub feed : List ℕ → State → List ℕ → List Call
-  feed [] s r = []
-  feed (b ∷ bs) s r = sending b r ∷ feed bs (entryOf s (sending b r) .out .state) (entryOf s (sending b r) .out .ram)
+  abbrev pub callsFor : List ℕ → State → List ℕ → List Call
+  callsFor [] s r = []
+  callsFor (b ∷ bs) s r = sending b r ∷ callsFor bs (entryOf s (sending b r) .out .state) (entryOf s (sending b r) .out .ram)
 
-  pub one-ram : (bs : List ℕ) (s : State) (r : List ℕ) → OneRam r (accepted (log s (feed bs s r)))
+  pub one-ram : (bs : List ℕ) (s : State) (r : List ℕ) → OneRam r (accepted (log s (callsFor bs s r)))
   unfolding step
   one-ram [] s r = tt
   one-ram (b ∷ bs) s r =
-      by-test (λ (o : Outcome). OneRam r (accepted (record { call = sending b r; out = o } ∷ log (o .state) (feed bs (o .state) (o .ram)))))
+      by-test (λ (o : Outcome). OneRam r (accepted (record { call = sending b r; out = o } ∷ log (o .state) (callsFor bs (o .state) (o .ram)))))
       (eqb (numberOf s (sending b r)) 0) _ _
       (λ z.
       let e = eqb-true (numberOf s (sending b r)) 0 z in
@@ -39,17 +39,17 @@ module _ (uds : List ℕ) (typed : Words uds) where
       taken (isAccepted (o .report)) t o (one-ram bs (o .state) (o .ram)))
       (λ z. one-ram bs s r)
     where
-      taken : (t : Bool) → t ≡ true → (o : Outcome) → OneRam (o .ram) (accepted (log (o .state) (feed bs (o .state) (o .ram))))
-          → OneRam r (cond t (record { call = sending b r; out = o } ∷ accepted (log (o .state) (feed bs (o .state) (o .ram)))) (accepted (log (o .state) (feed bs (o .state) (o .ram)))))
+      taken : (t : Bool) → t ≡ true → (o : Outcome) → OneRam (o .ram) (accepted (log (o .state) (callsFor bs (o .state) (o .ram))))
+          → OneRam r (cond t (record { call = sending b r; out = o } ∷ accepted (log (o .state) (callsFor bs (o .state) (o .ram)))) (accepted (log (o .state) (callsFor bs (o .state) (o .ram)))))
       taken true e o x = (refl, x)
       taken false e o x = never (sym e)
 
-  pub same-uds : (bs : List ℕ) (s : State) (r : List ℕ) (e : Entry) → List·Memᴰ e (log s (feed bs s r)) → e .call .uds ≡ uds
+  pub same-uds : (bs : List ℕ) (s : State) (r : List ℕ) (e : Entry) → List·Memᴰ e (log s (callsFor bs s r)) → e .call .uds ≡ uds
   same-uds [] s r e i = absurd (List·Memᴰ·not-nil i)
   same-uds (b ∷ bs) s r e i = go (List·Memᴰ·cases-cons i) (λ j. same-uds bs _ _ e j)
     where
-      go : (e ≡ entryOf s (sending b r)) ⊎ List·Memᴰ e (log (entryOf s (sending b r) .out .state) (feed bs (entryOf s (sending b r) .out .state) (entryOf s (sending b r) .out .ram)))
-          → (List·Memᴰ e (log (entryOf s (sending b r) .out .state) (feed bs (entryOf s (sending b r) .out .state) (entryOf s (sending b r) .out .ram))) → e .call .uds ≡ uds)
+      go : (e ≡ entryOf s (sending b r)) ⊎ List·Memᴰ e (log (entryOf s (sending b r) .out .state) (callsFor bs (entryOf s (sending b r) .out .state) (entryOf s (sending b r) .out .ram)))
+          → (List·Memᴰ e (log (entryOf s (sending b r) .out .state) (callsFor bs (entryOf s (sending b r) .out .state) (entryOf s (sending b r) .out .ram))) → e .call .uds ≡ uds)
           → e .call .uds ≡ uds
       go (inl q) f = ap (λ (x : Entry). x .call .uds) q
       go (inr j) f = f j
@@ -58,16 +58,16 @@ module _ (uds : List ℕ) (typed : Words uds) where
     not-refused : (s : State) (b : ℕ) (r : List ℕ) → Runs m s false → length r ≡ m → numberOf s (sending b r) ≡ 0
     not-refused s b r v l = number-is m s false (sending b r) v ∙ rw (eq-eqb (length r) m l, eq-eqb (length uds) 8 eight)
 
-    pub record Fed (bs : List ℕ) (es : List Entry) : Type 0 where
+    pub record AllAccepted (bs : List ℕ) (es : List Entry) : Type 0 where
       pub none-refused : accepted es ≡ es
       pub all-bytes : receivedBytes es ≡ bs
 
-    pub fed : (bs before : List ℕ) (s : State) (r : List ℕ) → Live rec udi m before s r → Runs m s false → length r ≡ m → Starting rec m (before ++ bs)
-        → Fed bs (log s (feed bs s r))
-    fed [] before s r v g l w = record { none-refused = refl; all-bytes = refl }
-    fed (b ∷ bs) before s r v g l w =
+    pub all-accepted : (bs before : List ℕ) (s : State) (r : List ℕ) → Live rec udi m before s r → Runs m s false → length r ≡ m → Starting rec m (before ++ bs)
+        → AllAccepted bs (log s (callsFor bs s r))
+    all-accepted [] before s r v g l w = record { none-refused = refl; all-bytes = refl }
+    all-accepted (b ∷ bs) before s r v g l w =
         go (entryOf s c .out) (next-runs m s false c g) (call-taken s c n) (subst (After rec udi m c (before ++ b ∷ [])) (sym (call-is s c n)) (after rec udi m c before s v l))
-        (λ o u x k. fed bs (before ++ b ∷ []) (o .state) (o .ram) u x k w′)
+        (λ o u x k. all-accepted bs (before ++ b ∷ []) (o .state) (o .ram) u x k w′)
       where
         c : Call
         c = sending b r
@@ -78,8 +78,8 @@ module _ (uds : List ℕ) (typed : Words uds) where
         w′ : Starting rec m ((before ++ b ∷ []) ++ bs)
         w′ = subst (Starting rec m) (sym (append-assoc before (b ∷ []) bs)) w
 
-        more : (o : Outcome) → isAccepted (o .report) ≡ true → Fed bs (log (o .state) (feed bs (o .state) (o .ram)))
-            → Fed (b ∷ bs) (record { call = sending b r; out = o } ∷ log (o .state) (feed bs (o .state) (o .ram)))
+        more : (o : Outcome) → isAccepted (o .report) ≡ true → AllAccepted bs (log (o .state) (callsFor bs (o .state) (o .ram)))
+            → AllAccepted (b ∷ bs) (record { call = sending b r; out = o } ∷ log (o .state) (callsFor bs (o .state) (o .ram)))
         more o t f =
             record {
               none-refused = rw (t, f .none-refused);
@@ -88,8 +88,8 @@ module _ (uds : List ℕ) (typed : Words uds) where
 
         go : (o : Outcome) → Runs m (o .state) (isEnd (o .report) || false) → isAccepted (o .report) ≡ true → After rec udi m (sending b r) (before ++ b ∷ []) o
             → ((o : Outcome) → Live rec udi m (before ++ b ∷ []) (o .state) (o .ram) → Runs m (o .state) false → length (o .ram) ≡ m
-            → Fed bs (log (o .state) (feed bs (o .state) (o .ram))))
-            → Fed (b ∷ bs) (record { call = sending b r; out = o } ∷ log (o .state) (feed bs (o .state) (o .ram)))
+            → AllAccepted bs (log (o .state) (callsFor bs (o .state) (o .ram))))
+            → AllAccepted (b ∷ bs) (record { call = sending b r; out = o } ∷ log (o .state) (callsFor bs (o .state) (o .ram)))
         go o x t (goes-on e u k s) f = more o t (f o u (subst (λ (y : Bool). Runs m (o .state) (y || false)) (ap isEnd e) x) k)
         go o x t (has-started d l z) f = more o t (rw (z bs w′) (record { none-refused = refl; all-bytes = refl }))
         go o x t (has-stopped k e q z) f = absurd (z bs w′)

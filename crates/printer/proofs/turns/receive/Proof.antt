@@ -2,26 +2,26 @@
 use Prim.Native.Nat.{_-_, _^_}
 use mathlib.Core.Path.{ap}
 use Rattle.head.specs.Answers.{Outcome}
-use Rattle.printer.specs.Output.{received}
+use Rattle.printer.specs.Output.{afterReceive}
 use Rattle.printer.proofs.Outcomes.{turn-as}
 use borrow.Author.Needs.{needs}
 use borrow.Author.Tests.{eq-eqb, ne-eqb}
-use Rattle.printer.proofs.turns.hear.Statement.{statement}
-use Rattle.printer.proofs.turns.hear.Tie as tie
+use Rattle.printer.proofs.turns.receive.Statement.{statement}
+use Rattle.printer.proofs.turns.receive.Tie as tie
 
 returns : tie.Need-returns
 returns c = let e = eq-eqb _ (2 ^ 64 - 1) (c .before .if1 .taken) in (rw e (c .wait .ensures), rw e)
 
 returns-2 : tie.Need-returns-2
-unfolding received
+unfolding afterReceive
 returns-2 c =
     let k = c .before .before .before .before .before .before .before .before .before .before in
     let n = ne-eqb _ (2 ^ 64 - 1) (k .before .before .before .before .before .before .if1 .left) in
     let e = c .before .end-line .ensures _ (c .before .before .reply .ensures .1) in
     (rw n (turn-as (k .receive .result) _ _ _ _ _ _ _ (k .receive .ensures) e (c .is-over .ensures)), rw n (ap (λ (o : Outcome). o .ram) (k .receive .ensures)))
 
-pub hear-spec : {M : Type 1} → statement M
-hear-spec =
+pub receive-spec : {M : Type 1} → statement M
+receive-spec =
     tie.close
     (tie.spec
     (λ c κs. search needs)
