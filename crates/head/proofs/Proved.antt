@@ -11,7 +11,8 @@ use lib.Dec.{eqb}
 use borrow.Author.Tests.{ne-eqb, eq-eqb, eqb-true, eqb-false, le-leb}
 use Rattle.endian.specs.Lists.{zeros}
 use Rattle.endian.proofs.Cases.{impossible}
-use Rattle.head.specs.State.{incomingOk, progressOk, ramOk, inRange, live, ended}
+use Rattle.protocol.specs.Commands.{lengthOk}
+use Rattle.head.specs.State.{incomingOk, progressOk, inRange, live, ended}
 use Rattle.head.specs.Answers.{refused, continues, stopped, started, refusalNumber, stopNumber, reportOf, Outcome}
 use Rattle.head.specs.Begin.{Beginning, ending, waitingWith, configOf, byType, beginning}
 use Rattle.head.specs.Machine.{starting, refusal, refusing, step}
@@ -95,19 +96,19 @@ same-answer (Started a n) (Stopped y) e = cc
 
 -- ---- the range
 
-in-range : (s : State) → ramOk (s .config .«ram_len») ≡ true → incomingOk (s .incoming) ≡ true → progressOk (s .progress) (s .config .«ram_len») ≡ true
+in-range : (s : State) → lengthOk (s .config .«ram_len») ≡ true → incomingOk (s .incoming) ≡ true → progressOk (s .progress) (s .config .«ram_len») ≡ true
     → inRange s ≡ true
 unfolding inRange
 in-range s r i p = rw (r, i, p)
 
-ram-ok : (s : State) → inRange s ≡ true → ramOk (s .config .«ram_len») ≡ true
+ram-ok : (s : State) → inRange s ≡ true → lengthOk (s .config .«ram_len») ≡ true
 ram-ok s e = let f = range-facts s e in simp (le-leb 1 (s .config .«ram_len») (f .ram-some), le-leb (s .config .«ram_len») 131072 (f .ram-small))
 
-started-ok : (m : ℕ) → ramOk m ≡ true → inRange (ended phase.Started m) ≡ true
+started-ok : (m : ℕ) → lengthOk m ≡ true → inRange (ended phase.Started m) ≡ true
 unfolding ended
 started-ok m r = in-range (ended phase.Started m) r refl refl
 
-stopped-ok : (m : ℕ) → ramOk m ≡ true → inRange (ended phase.Stopped m) ≡ true
+stopped-ok : (m : ℕ) → lengthOk m ≡ true → inRange (ended phase.Stopped m) ≡ true
 unfolding ended
 stopped-ok m r = in-range (ended phase.Stopped m) r refl refl
 
@@ -362,16 +363,16 @@ module _ (s : State) (b : ℕ) (room ram uds : List ℕ) where
 
 -- a begin goes one of three ways
 by-begin : (P : Beginning → Type 0) (bytes udi : List ℕ) (m : ℕ) → ((k : ℕ) → P (ending (refused k) 1))
-    → (ramOk m ≡ true → (k : ℕ) → P (ending (stopped k) m)) → (ramOk m ≡ true → (v : Bool) → P (waitingWith (configOf v (recordAt bytes) udi m)))
+    → (lengthOk m ≡ true → (k : ℕ) → P (ending (stopped k) m)) → (lengthOk m ≡ true → (v : Bool) → P (waitingWith (configOf v (recordAt bytes) udi m)))
     → P (beginning bytes udi m)
 unfolding beginning
-by-begin P bytes udi m f g h = go (eqb (length bytes) 256) (ramOk m) refl
+by-begin P bytes udi m f g h = go (eqb (length bytes) 256) (lengthOk m) refl
   where
-    by-type : (t : Option ℕ) → ramOk m ≡ true → P (byType t (recordAt bytes) udi m)
+    by-type : (t : Option ℕ) → lengthOk m ≡ true → P (byType t (recordAt bytes) udi m)
     by-type (some n) e = by-test P (eqb n 4) _ _ (λ x. h e false) (λ x. by-test P (eqb n 5) _ _ (λ y. h e true) (λ y. g e 21))
     by-type none e = g e 20
 
-    go : (x y : Bool) → ramOk m ≡ y
+    go : (x y : Bool) → lengthOk m ≡ y
         → P (cond (eqb (cond (not x) 6 (cond (not y) 7 0)) 0) (byType (recordAt bytes .type) (recordAt bytes) udi m) (ending (refused (cond (not x) 6 (cond (not y) 7 0))) 1))
     go true true e = by-type (recordAt bytes .type) e
     go true false e = f 7
@@ -381,7 +382,7 @@ begun : (bytes udi : List ℕ) (m : ℕ) → inRange (beginning bytes udi m .sta
 begun bytes udi m =
     by-begin (λ (x : Beginning). inRange (x .state) ≡ true) bytes udi m (λ k. stopped-ok 1 refl) (λ e k. stopped-ok m e) (λ e v. in-range _ e refl refl)
 
-after-stop : (b : ℕ) (room ram uds : List ℕ) (m : ℕ) → ramOk m ≡ true
+after-stop : (b : ℕ) (room ram uds : List ℕ) (m : ℕ) → lengthOk m ≡ true
     → step (ended phase.Stopped m) b room ram uds ≡ refusing 2 (ended phase.Stopped m) room ram uds
 unfolding step refusal ended
 after-stop b room ram uds m e = rw (stopped-ok m e)

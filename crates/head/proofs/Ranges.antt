@@ -8,8 +8,8 @@ use borrow.Author.Tests.{eqb-true, ltb-true, leb-true}
 use Rattle.endian.proofs.Cases.{impossible}
 use Rattle.framing.specs.Header.{Reading, good, headerAt, lengthOf}
 use Rattle.framing.proofs.Headers.{by-bits}
-use Rattle.protocol.specs.Commands.{blocksFor, placeOf, countIn}
-use Rattle.head.specs.State.{bodyLen, incomingOk, loadingOk, progressIn, progressOk, ramOk, inRange}
+use Rattle.protocol.specs.Commands.{lengthOk, blocksFor, placeOf, countIn}
+use Rattle.head.specs.State.{bodyLen, incomingOk, loadingOk, progressIn, progressOk, inRange}
 use Rattle.head.specs.Machine.{actionIn, actionWaiting}
 use Rattle.head.specs.declared.Phase.{Phase}
 use Rattle.head.specs.declared.Phase.the-variants.{Waiting, Loading, Started, Stopped}
@@ -119,7 +119,7 @@ pub record InRange (s : State) : Type 0 where
 pub range-facts : (s : State) → inRange s ≡ true → InRange s
 unfolding inRange
 range-facts s e =
-    let a = and-eq-true-iff (ramOk (s .config .«ram_len»)) _ .0 e in
+    let a = and-eq-true-iff (lengthOk (s .config .«ram_len»)) _ .0 e in
     let b = and-eq-true-iff (leb 1 (s .config .«ram_len»)) _ .0 (a .0) in
     let d = and-eq-true-iff (incomingOk (s .incoming)) _ .0 (a .1) in
     record {

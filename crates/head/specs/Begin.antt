@@ -7,7 +7,8 @@ use lib.Dec.{eqb}
 use lib.ListN.{length}
 use Rattle.record.specs.Record.{Contents, recordAt}
 use Rattle.endian.specs.Lists.{zeros}
-use Rattle.head.specs.State.{ramOk, idle, ended}
+use Rattle.protocol.specs.Commands.{lengthOk}
+use Rattle.head.specs.State.{idle, ended}
 use Rattle.head.specs.Answers.{Report, refused, continues, stopped, reportOf}
 use Rattle.head.specs.declared.Phase.the-variants as phase
 use Rattle.head.specs.declared.Config.{Config}
@@ -57,7 +58,7 @@ byType none r udi m = ending (stopped 20) m
 
 -- the lowest refusal that applies, 0 for none, by the record's length and the RAM's
 abbrev pub beginRefusal : ℕ → ℕ → ℕ
-beginRefusal n m = cond (not (eqb n 256)) 6 (cond (not (ramOk m)) 7 0)
+beginRefusal n m = cond (not (eqb n 256)) 6 (cond (not (lengthOk m)) 7 0)
 
 -- a refused begin hands back one state, which depends on nothing
 unfoldable pub beginning : List ℕ → List ℕ → ℕ → Beginning

@@ -5,7 +5,7 @@ use mathlib.Core.List.{List, [], _∷_}
 use lib.Dec.{eqb, leb, ltb}
 use Rattle.endian.specs.Lists.{zeros}
 use Rattle.framing.specs.Header.{Reading, good, stop, headerAt}
-use Rattle.protocol.specs.Commands.{blocksFor}
+use Rattle.protocol.specs.Commands.{lengthOk, blocksFor}
 use Rattle.head.specs.declared.Phase.{Phase}
 use Rattle.head.specs.declared.Phase.the-variants.{Waiting, Loading, Started, Stopped}
 use Rattle.head.specs.declared.Incoming.{Incoming}
@@ -45,13 +45,9 @@ progressIn Stopped p m = true
 abbrev pub progressOk : Progress → ℕ → Bool
 progressOk p m = progressIn (p .phase) p m
 
--- RAM has 1 to 131,072 bytes
-abbrev pub ramOk : ℕ → Bool
-ramOk m = leb 1 m && leb m 131072
-
 -- each field is in its range
 unfoldable pub inRange : State → Bool
-inRange s = ramOk (s .config .«ram_len») && (incomingOk (s .incoming) && progressOk (s .progress) (s .config .«ram_len»))
+inRange s = lengthOk (s .config .«ram_len») && (incomingOk (s .incoming) && progressOk (s .progress) (s .config .«ram_len»))
 
 -- the head has neither started nor stopped
 abbrev pub live : Phase → Bool

@@ -13,7 +13,6 @@ pub use states::equal;
 pub use states::idle;
 pub use states::in_range;
 pub use states::is_live;
-pub use states::ram_ok;
 
 // Where a session stands.
 pub enum Phase {

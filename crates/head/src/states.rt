@@ -1,7 +1,7 @@
 // The state: the range of each field (docs/STATES.md), and what it is after a start or a stop.
 ghost use mathlib.Core.Path.{_≡_};
 ghost use Rattle.framing.specs.Header.{headerAt};
-ghost use Rattle.head.specs.State.{same, bodyLen, incomingOk, waitingOk, loadingOk, progressOk, ramOk, inRange, live, ended, idle};
+ghost use Rattle.head.specs.State.{same, bodyLen, incomingOk, waitingOk, loadingOk, progressOk, inRange, live, ended, idle};
 use super::Config;
 use super::Incoming;
 use super::Phase;
@@ -81,22 +81,12 @@ fn progress_ok(p: Progress, ram_len: usize) -> bool
     }
 }
 
-// Whether RAM of this length can be lent.
-pub fn ram_ok(ram_len: usize) -> bool
-    ensures { λ r. ⌜ r ≡ ramOk «ram_len» ⌝ }
-{
-    if ram_len == 0 {
-        return false;
-    }
-    ram_len <= 131072
-}
-
 // Whether each field of the state is in its range.
 pub fn in_range(s: State) -> bool
     ensures { λ r. ⌜ r ≡ inRange s ⌝ }
 {
     let ram_len = s.config.ram_len;
-    if !ram_ok(ram_len) {
+    if !protocol::length_ok(ram_len) {
         return false;
     }
     if !incoming_ok(s.incoming) {

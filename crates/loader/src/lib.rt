@@ -36,7 +36,7 @@ pub fn begin(record: &[u8], udi: [u8; 8], ram_len: usize) -> Begun
     if record.len() != 256 {
         return beginning::end(Answer::Refused(Refusal::RecordLength), 1);
     }
-    if !head::ram_ok(ram_len) {
+    if !protocol::length_ok(ram_len) {
         return beginning::end(Answer::Refused(Refusal::RamSize), 1);
     }
     let bytes = beginning::record_bytes(record);

@@ -10,7 +10,8 @@ use lib.ListN.{length}
 use borrow.Author.Tests.{eqb-true, leb-true}
 use Rattle.endian.proofs.Cases.{impossible}
 use Rattle.record.specs.Record.{typeField, numberIn, recordAt}
-use Rattle.head.specs.State.{ramOk, inRange, live, idle, ended}
+use Rattle.protocol.specs.Commands.{lengthOk}
+use Rattle.head.specs.State.{inRange, live, idle, ended}
 use Rattle.head.specs.Answers.{Report, refused, continues, stopped, started}
 use Rattle.head.specs.Begin.{waiting, beginning}
 use Rattle.head.specs.Machine.{refusal}
@@ -33,14 +34,14 @@ pub record Fresh (rec udi : List ℕ) (m : ℕ) : Type 0 where
 
 pub fresh : (rec udi : List ℕ) (m : ℕ) → isAccepted (beginning rec udi m .report) ≡ true → (numberIn typeField rec ≡ 4) ⊎ (numberIn typeField rec ≡ 5) → Fresh rec udi m
 unfolding beginning recordAt
-fresh rec udi m e t = go (eqb (length rec) 256) (ramOk m) refl refl t
+fresh rec udi m e t = go (eqb (length rec) 256) (lengthOk m) refl refl t
   where
-    facts : eqb (length rec) 256 ≡ true → ramOk m ≡ true → beginning rec udi m .state ≡ at rec udi m idle waiting → Fresh rec udi m
+    facts : eqb (length rec) 256 ≡ true → lengthOk m ≡ true → beginning rec udi m .state ≡ at rec udi m idle waiting → Fresh rec udi m
     facts p q s =
         let b = and-eq-true-iff (leb 1 m) (leb m 131072) .0 q in
         record { state = s; size = eqb-true (length rec) 256 p; some = leb-true 1 m (b .0); small = leb-true m 131072 (b .1) }
 
-    go : (x y : Bool) → eqb (length rec) 256 ≡ x → ramOk m ≡ y → (numberIn typeField rec ≡ 4) ⊎ (numberIn typeField rec ≡ 5) → Fresh rec udi m
+    go : (x y : Bool) → eqb (length rec) 256 ≡ x → lengthOk m ≡ y → (numberIn typeField rec ≡ 4) ⊎ (numberIn typeField rec ≡ 5) → Fresh rec udi m
     go true true p q (inl f) = facts p q (rw (p, q, f))
     go true true p q (inr f) = facts p q (rw (p, q, f))
     go true false p q f = let z : isAccepted (beginning rec udi m .report) ≡ false = rw (p, q) in never (sym e ∙ z)

@@ -17,7 +17,7 @@ returns c =
 returns-2 : tie.Need-returns-2
 unfolding beginning
 returns-2 c =
-    let r = c .before .before .ram-ok in
+    let r = c .before .before .length-ok in
     let e = c .before .before .before in
     let a = e .before .before .args in
     rw (c .end2 .ensures, eq-eqb (length (a .«record» .now)) 256 (e .if1 .left), ← (r .ensures), not-true (r .result) (c .before .if2 .taken))
@@ -26,7 +26,7 @@ returns-3 : tie.Need-returns-3
 unfolding beginning
 returns-3 c =
     let t = c .before .before .before in
-    let r = t .before .ram-ok in
+    let r = t .before .length-ok in
     let e = t .before .before in
     let a = e .before .before .args in
     c .by-type .ensures ∙ ap (λ (x : Contents). byType (x .type) x (a .udi) (a .ram-len)) (c .before .read .ensures)
