@@ -9,6 +9,7 @@ use mathlib.Core.List.{List, [], _∷_}
 use denote.Enum.Declared.{tagOf}
 use types.Run.{OneOf, miss}
 use lib.ListN.{length}
+use Rattle.endian.proofs.Cases.{impossible}
 use Rattle.rfc7693.specs.Rfc7693.{blake2s}
 use Rattle.blake2s.specs.Hash.{numberOf, hashNumber, hashOutput}
 use Rattle.blake2s.proofs.Answer.{the-type}
@@ -93,8 +94,8 @@ module _ (c : Context) where
     where
       go : (x y : Bool) → eqb (c .size) 0 ≡ x → ltb 32 (c .size) ≡ y → not (x || y) ≡ true → (0 < c .size) × (c .size ≤ 32)
       go false false p q r = (omega (arith, eqb-false (c .size) 0 p), ltb-false 32 (c .size) q)
-      go false true p q r = absurd (let z : _≡_ {A = ℕ} 0 1 = cc in omega arith)
-      go true y p q r = absurd (let z : _≡_ {A = ℕ} 0 1 = cc in omega arith)
+      go false true p q r = impossible cc
+      go true y p q r = impossible cc
 
   pub size-range : 0 < c .size → c .size ≤ 32 → inRange c ≡ true
   unfolding inRange

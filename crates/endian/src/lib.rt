@@ -3,6 +3,7 @@ ghost use mathlib.Core.Path.{_≡_};
 ghost use mathlib.Core.List.{[], _∷_};
 ghost use Prim.Native.Nat.{_/_, _%_};
 ghost use lib.ListN.{getD, length};
+ghost use Rattle.endian.specs.Lists.{zeros};
 ghost use Rattle.endian.specs.Endian.{word, byteOf, firstBytes};
 
 // The word of four bytes.
@@ -41,6 +42,17 @@ pub fn write_bytes(words: &[u32], out: &mut [u8])
     while i < out.len() {
         let b = byte_at(words, i);
         out[i] = b;
+        i += 1;
+    }
+}
+
+// Sets each word to zero.
+pub fn clear(words: &mut [u32])
+    ensures { λ _. ⌜ now (words .exit) ≡ zeros (length (now (words .entry))) ⌝ }
+{
+    let mut i = 0;
+    while i < words.len() {
+        words[i] = 0;
         i += 1;
     }
 }

@@ -10,6 +10,7 @@ use native.Mathlib.Omega.{arith}
 use lib.Dec.{eqb, ltb}
 use lib.ListN.{length, getD}
 use borrow.Author.Tests.{eq-eqb, eqb-true, eqb-false, lt-ltb, ltb-true, ltb-false}
+use Rattle.endian.proofs.Cases.{impossible}
 use Rattle.framing.specs.Header.{indexOf, lengthOf, codeOf, Reading, good, stop, Writing, byte, refused, headerAt, headerByte, inField, frameId, endpoint}
 use Rattle.framing.specs.Answers.{readingOf, writingOf}
 use Rattle.framing.specs.Theorems.{Headers, bit}
@@ -17,10 +18,6 @@ use Rattle.framing.specs.declared.Header.{Header}
 use Rattle.framing.specs.declared.Header.the-variants.{Good, Bad}
 use Rattle.framing.specs.declared.Written.{Written}
 use Rattle.framing.specs.declared.Written.the-variants.{Byte, Refused}
-
--- two reports with different constructors are never equal
-apart : {A : Type 0} → _≡_ {A = ℕ} 0 1 → A
-apart e = absurd (omega arith)
 
 -- what stands at the place of n in a list that has it is n
 indexed : (n : ℕ) (xs : List ℕ) → indexOf n xs < length xs → getD xs (indexOf n xs) 0 ≡ n
@@ -123,7 +120,7 @@ module _ (b : ℕ) where
 -- the fields of a good byte
 pub fields-of : (b id ep n : ℕ) → headerAt b ≡ good id ep n → (inField frameId b ≡ id) × (inField endpoint b ≡ ep)
 fields-of b id ep n =
-    by-bits b (λ (x : Reading). x ≡ good id ep n → (inField frameId b ≡ id) × (inField endpoint b ≡ ep)) (λ p q e. (cc, cc)) (λ g e. apart (cc))
+    by-bits b (λ (x : Reading). x ≡ good id ep n → (inField frameId b ≡ id) × (inField endpoint b ≡ ep)) (λ p q e. (cc, cc)) (λ g e. impossible cc)
 
 -- a good byte is written again from what it says
 write-read : (b id ep n : ℕ) → b < 256 → headerAt b ≡ good id ep n → headerByte id ep n ≡ byte b
@@ -136,7 +133,7 @@ write-read b id ep n h =
     let r : codeOf n ≡ b / 1 % 4 = rw (← l) (code-of-length (b / 1 % 4) (omega arith)) in
     let s : id * 32 + ep * 8 + codeOf n ≡ b = rw (← i, ← k, r) (sum-of-fields b h p q) in
     rw (written id ep n (omega arith) (omega arith) (omega arith), s))
-    (λ g e. apart (cc))
+    (λ g e. impossible cc)
 
 pub headers : Headers
 headers = record {
@@ -146,14 +143,14 @@ headers = record {
         (λ hi he hc w.
         let e : id * 32 + ep * 8 + codeOf n ≡ b = cc in
         (omega arith, rw (← e, read-written id ep (codeOf n) hi he hc, length-of-code n hc)))
-        (λ h w. apart (cc)),
+        (λ h w. impossible cc),
   );
   bad = λ b. (
-    by-bits b (λ (x : Reading). x ≡ stop 22 → (bit 7 b ≡ 1) ⊎ (bit 2 b ≡ 1)) (λ p q e. apart (cc)) (λ h e. h),
+    by-bits b (λ (x : Reading). x ≡ stop 22 → (bit 7 b ≡ 1) ⊎ (bit 2 b ≡ 1)) (λ p q e. impossible cc) (λ h e. h),
     λ h. by-bits b (λ (x : Reading). x ≡ stop 22) (λ p q. absurd (⊎-elim (λ e. omega arith) (λ e. omega arith) h)) (λ g. refl),
   );
   refusal = λ id ep n. (
-    by-fields id ep n (λ (x : Writing). x ≡ refused 11 → ((id ≤ 3) × (ep ≤ 3) × Known n) → ⊥) (λ hi he hc e g. apart (cc))
+    by-fields id ep n (λ (x : Writing). x ≡ refused 11 → ((id ≤ 3) × (ep ≤ 3) × Known n) → ⊥) (λ hi he hc e g. impossible cc)
         (λ h e g. h (omega arith, omega arith, code-of-known n (g .2))),
     λ h. by-fields id ep n (λ (x : Writing). x ≡ refused 11)
         (λ hi he hc. absurd (h (omega arith, omega arith, known-of-code n (codeOf n) (length-of-code n hc) hc))) (λ g. refl),

@@ -7,6 +7,9 @@ use Rattle.head.specs.declared.Stop.{Stop}
 use Rattle.head.specs.declared.Stop.the-variants.{UnknownType, NoFlash, HeaderBit, Command, BodyLength, Digest}
 use Rattle.head.specs.declared.Answer.{Answer}
 use Rattle.head.specs.declared.Answer.the-variants.{Refused, Continue, Stopped, Started}
+use Rattle.head.specs.declared.Admission.{Admission}
+use Rattle.head.specs.declared.Admission.the-variants as admission
+use Rattle.head.specs.declared.Admission.the-variants.{Admitted}
 use Rattle.head.specs.declared.State.{State}
 use Rattle.head.specs.declared.Received.{Received}
 
@@ -27,6 +30,11 @@ stopNumber HeaderBit = 22
 stopNumber Command = 23
 stopNumber BodyLength = 24
 stopNumber Digest = 25
+
+-- whether a call is admitted: 0, or the number of its refusal
+abbrev pub admissionNumber : Admission → ℕ
+admissionNumber Admitted = 0
+admissionNumber (admission.Refused r) = refusalNumber r
 
 pub data Report : Type 0 where
   -- the number of the refusal

@@ -6,13 +6,12 @@ mod commands;
 mod states;
 
 ghost use mathlib.Core.Path.{_≡_};
-ghost use Rattle.head.specs.Answers.{refusalNumber, stopNumber};
+ghost use Rattle.head.specs.Machine.{refusal};
+ghost use Rattle.head.specs.Answers.{refusalNumber, stopNumber, admissionNumber};
 pub use commands::decide;
+pub use states::allowed;
 pub use states::ended;
-pub use states::equal;
 pub use states::idle;
-pub use states::in_range;
-pub use states::is_live;
 
 // Where a session stands.
 pub enum Phase {
@@ -179,4 +178,33 @@ pub fn stop_number(s: Stop) -> u8
         Stop::BodyLength => 24,
         Stop::Digest => 25,
     }
+}
+
+// Whether a call is admitted.
+pub enum Admission {
+    Admitted,
+    Refused(Refusal),
+}
+
+// The lowest refusal that applies to a state and the lengths of what is lent, or none.
+pub fn admit(s: State, room: usize, ram: usize, uds: usize) -> Admission
+    ensures { λ r. ⌜ admissionNumber r ≡ refusal s room ram uds ⌝ }
+{
+    let ram_len = s.config.ram_len;
+    if !states::in_range(s) {
+        return Admission::Refused(Refusal::StateRange);
+    }
+    if !states::is_live(s.progress) {
+        return Admission::Refused(Refusal::Ended);
+    }
+    if room < 129 {
+        return Admission::Refused(Refusal::ReplyRoom);
+    }
+    if ram != ram_len {
+        return Admission::Refused(Refusal::RamLength);
+    }
+    if uds != 8 {
+        return Admission::Refused(Refusal::SecretLength);
+    }
+    Admission::Admitted
 }

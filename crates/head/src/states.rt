@@ -1,6 +1,7 @@
 // The state: the range of each field (docs/STATES.md), and what it is after a start or a stop.
 ghost use mathlib.Core.Path.{_≡_};
 ghost use Rattle.framing.specs.Header.{headerAt};
+ghost use Rattle.head.specs.Machine.{allowed};
 ghost use Rattle.head.specs.State.{same, bodyLen, incomingOk, waitingOk, loadingOk, progressOk, inRange, live, ended, idle};
 use super::Config;
 use super::Incoming;
@@ -141,4 +142,15 @@ pub fn ended(phase: Phase, ram_len: usize) -> State
             uss: [0; 32],
         },
     }
+}
+
+// Whether a program with this digest may start.
+pub fn allowed(c: Config, digest: [u8; 32]) -> bool
+    ensures { λ r. ⌜ r ≡ allowed c digest ⌝ }
+{
+    if !c.verify {
+        return true;
+    }
+    let required = c.required;
+    equal(&digest, &required)
 }

@@ -6,19 +6,11 @@ use Rattle.protocol.specs.Replies.{sent, putIn}
 use Rattle.protocol.specs.declared.Frame.{Frame}
 use Rattle.protocol.specs.declared.Reply.{Reply}
 use Rattle.endian.specs.Lists.{zeros}
-use Rattle.head.specs.Answers.{refusalNumber}
 use Rattle.head.specs.declared.Incoming.{Incoming}
 use Rattle.head.specs.declared.State.{State}
 use Rattle.head.specs.declared.Answer.{Answer}
 use Rattle.head.specs.declared.Answer.the-variants.{Continue}
 use Rattle.head.specs.declared.Received.{Received}
-use Rattle.loader.specs.declared.Admission.{Admission}
-use Rattle.loader.specs.declared.Admission.the-variants.{Admitted, Refused}
-
--- the number of a refusal, 0 for none
-abbrev pub admissionNumber : Admission → ℕ
-admissionNumber Admitted = 0
-admissionNumber (Refused r) = refusalNumber r
 
 -- an answer with neither CDI nor digest
 abbrev pub plainly : Answer → ℕ → State → Received

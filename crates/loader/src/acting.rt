@@ -134,17 +134,6 @@ fn next_block(p: Progress) -> Progress
     next
 }
 
-// Whether a program with this digest may start.
-fn allowed(c: Config, digest: [u8; 32]) -> bool
-    ensures { λ r. ⌜ r ≡ allowed c digest ⌝ }
-{
-    if !c.verify {
-        return true;
-    }
-    let required = c.required;
-    head::equal(&digest, &required)
-}
-
 // A start: the device secret is read, and then cleared.
 fn start(s: State, digest: [u8; 32], uds: &mut [u32]) -> Received
     requires { ⌜ length (now uds) ≡ 8 ⌝ }
@@ -156,7 +145,7 @@ fn start(s: State, digest: [u8; 32], uds: &mut [u32]) -> Received
     let measured_id = c.measured_id;
     let uss = p.uss;
     let cdi = cdi::derive(secret, c.chained, measured_id, digest, p.uss_used, uss);
-    super::memory::clear(uds);
+    endian::clear(uds);
     Received {
         answer: Answer::Started {
             address: 0x40000000,
@@ -181,7 +170,7 @@ fn finish(s: State, room: &mut [u8], ram: &mut [u8], uds: &mut [u32]) -> Receive
     let digest = super::memory::measure(ram, n);
     let reply = protocol::digest_reply(s.incoming.header, digest);
     super::memory::put(room, reply);
-    if allowed(c, digest) {
+    if head::allowed(c, digest) {
         return start(s, digest, uds);
     }
     plain(

@@ -12,8 +12,7 @@ ghost use lib.ListN.{length};
 ghost use Rattle.head.specs.State.{inRange};
 ghost use Rattle.head.specs.Answers.{outcome};
 ghost use Rattle.head.specs.Begin.{beginningOf, beginning};
-ghost use Rattle.head.specs.Machine.{refusal, withIncoming, processed, step};
-ghost use Rattle.loader.specs.Steps.{admissionNumber};
+ghost use Rattle.head.specs.Machine.{withIncoming, processed, step};
 pub use head::Answer;
 pub use head::Begun;
 pub use head::Config;
@@ -23,6 +22,7 @@ pub use head::Progress;
 pub use head::Received;
 pub use head::Refusal;
 pub use head::State;
+use head::Admission;
 use head::Step;
 pub use head::Stop;
 pub use head::refusal_number;
@@ -41,35 +41,6 @@ pub fn begin(record: &[u8], udi: [u8; 8], ram_len: usize) -> Begun
     }
     let bytes = beginning::record_bytes(record);
     beginning::by_type(record::read(bytes), udi, ram_len)
-}
-
-// Whether a call is admitted.
-enum Admission {
-    Admitted,
-    Refused(Refusal),
-}
-
-// The lowest refusal that applies to a state and the lengths of what is lent, or none.
-fn admit(s: State, room: usize, ram: usize, uds: usize) -> Admission
-    ensures { λ r. ⌜ admissionNumber r ≡ refusal s room ram uds ⌝ }
-{
-    let ram_len = s.config.ram_len;
-    if !head::in_range(s) {
-        return Admission::Refused(Refusal::StateRange);
-    }
-    if !head::is_live(s.progress) {
-        return Admission::Refused(Refusal::Ended);
-    }
-    if room < 129 {
-        return Admission::Refused(Refusal::ReplyRoom);
-    }
-    if ram != ram_len {
-        return Admission::Refused(Refusal::RamLength);
-    }
-    if uds != 8 {
-        return Admission::Refused(Refusal::SecretLength);
-    }
-    Admission::Admitted
 }
 
 // The state with another incoming frame.
@@ -107,7 +78,7 @@ fn process(s: State, byte: u8, room: &mut [u8], ram: &mut [u8], uds: &mut [u32])
 pub fn receive(s: State, byte: u8, room: &mut [u8], ram: &mut [u8], uds: &mut [u32]) -> Received
     ensures { λ r. ⌜ outcome r (now (room .exit)) (now (ram .exit)) (now (uds .exit)) ≡ step s byte (now (room .entry)) (now (ram .entry)) (now (uds .entry)) ⌝ }
 {
-    match admit(s, room.len(), ram.len(), uds.len()) {
+    match head::admit(s, room.len(), ram.len(), uds.len()) {
         Admission::Refused(why) => acting::plain(Answer::Refused(why), 0, s),
         Admission::Admitted => process(s, byte, room, ram, uds),
     }

@@ -1,8 +1,8 @@
 // Bytes read and written in what is lent: the reply room, RAM and the device secret.
 ghost use mathlib.Core.Path.{_≡_};
 ghost use mathlib.Core.List.{[]};
-ghost use Prim.Native.Nat.{_+_, _≤_, _<_};
-ghost use lib.ListN.{length, take, replicate};
+ghost use Prim.Native.Nat.{_+_, _≤_};
+ghost use lib.ListN.{length, take};
 ghost use lib.Seq.{paste};
 ghost use Rattle.rfc7693.specs.Rfc7693.{blake2s};
 ghost use Rattle.endian.specs.Endian.{bytes};
@@ -62,15 +62,4 @@ pub fn secret_bytes(words: &[u32]) -> [u8; 32]
     let mut secret = [0u8; 32];
     endian::write_bytes(words, &mut secret);
     secret
-}
-
-// Sets each word to zero.
-pub fn clear(words: &mut [u32])
-    ensures { λ _. ⌜ now (words .exit) ≡ replicate (length (now (words .entry))) 0 ⌝ }
-{
-    let mut i = 0;
-    while i < words.len() {
-        words[i] = 0;
-        i += 1;
-    }
 }

@@ -3,8 +3,8 @@ use mathlib.Core.Path.{_≡_, sym, ap, _∙_}
 use lib.ListN.{length}
 use Rattle.head.specs.Machine.{refusal}
 use Rattle.head.proofs.Admitted.{admitted, admitted-as}
-use Rattle.loader.specs.Steps.{admissionNumber}
-use Rattle.loader.specs.declared.Admission.{Admission}
+use Rattle.head.specs.Answers.{admissionNumber}
+use Rattle.head.specs.declared.Admission.{Admission}
 use Rattle.loader.proofs.Steps.{refused-as}
 use borrow.Author.Needs.{needs}
 use Rattle.loader.proofs.receive.Statement.{statement}

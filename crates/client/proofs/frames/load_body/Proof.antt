@@ -11,13 +11,18 @@ use Rattle.client.proofs.frames.load_body.Tie as tie
 uss-length : (z : tie.Start) → length (z .args .secret .uss) ≡ 32
 uss-length z = search needs
 
+-- the last byte of the size is made
+abbrev sized : tie.After-load → tie.After-byte4
+sized c = c .before .before .before .before
+
 copy-requires : tie.Need-copy-requires
-copy-requires c κs = let l = uss-length (c .before .before .before .before .before .before .before .before) in omega arith
+copy-requires c κs = let l = uss-length (sized c .before .before .before .before) in omega arith
 
 returns : tie.Need-returns
 unfolding loadBody
 returns c =
-    let b4 = c .before .before .before .before .before .before in
+    let u = c .before .before in
+    let b4 = u .before .before .before .before in
     let b3 = b4 .before in
     let b2 = b3 .before in
     let b1 = b2 .before in
@@ -25,7 +30,7 @@ returns c =
     let s = z .args .secret .uss in
     let l = uss-length z in
     let e = c .before .copy .ensures .1 ∙ copied s (replicate 32 0) 32 l in
-    rw (e, b4 .byte4 .ensures, b3 .byte3 .ensures, b2 .byte2 .ensures, b1 .byte .ensures, c .before .before .before .before .before .if1 .taken, l)
+    rw (e, b4 .byte4 .ensures, b3 .byte3 .ensures, b2 .byte2 .ensures, b1 .byte .ensures, u .before .before .before .if1 .taken, l)
 
 returns-2 : tie.Need-returns-2
 unfolding loadBody

@@ -2,11 +2,11 @@
 use mathlib.Core.Path.{_≡_, sym, _∙_}
 use mathlib.Core.Bool.{true}
 use borrow.Author.Tests.{eq-eqb, ne-eqb, lt-ltb, le-ltb, not-true, not-false}
 use Rattle.head.specs.State.{inRange, live}
 use Rattle.head.specs.Machine.{refusal}
 use borrow.Author.Needs.{needs}
-use Rattle.loader.proofs.admit.Statement.{statement}
-use Rattle.loader.proofs.admit.Tie as tie
+use Rattle.head.proofs.admit.Statement.{statement}
+use Rattle.head.proofs.admit.Tie as tie
 
 -- the first test is passed
 ranged : (b : tie.Else1) → inRange (b .before .before .args .s) ≡ true

@@ -8,8 +8,8 @@ use borrow.Author.Fill.{fill-more}
 use lib.Seq.{drop-length}
 use native.Mathlib.Omega.{arith}
 use mathlib.Core.Path.{_≡_, refl, ap, _∙_}
-use Rattle.loader.proofs.memory.clear.Statement.{statement}
-use Rattle.loader.proofs.memory.clear.Tie as tie
+use Rattle.endian.proofs.clear.Statement.{statement}
+use Rattle.endian.proofs.clear.Tie as tie
 
 abbrev Inv-loop : tie.InvT-loop
 Inv-loop words₀ i₀ words i = (i ≤ length words₀) × (words ≡ replicate i 0 ++ drop i words₀) × (length words ≡ length words₀)

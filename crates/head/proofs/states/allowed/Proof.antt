@@ -1,8 +1,8 @@
 -- The digest is compared only where one is required.
 use borrow.Author.Tests.{not-true, not-false}
 use borrow.Author.Needs.{needs}
-use Rattle.loader.proofs.acting.allowed.Statement.{statement}
-use Rattle.loader.proofs.acting.allowed.Tie as tie
+use Rattle.head.proofs.states.allowed.Statement.{statement}
+use Rattle.head.proofs.states.allowed.Tie as tie
 
 returns : tie.Need-returns
 returns c = let v = c .before .before .args .c .verify in rw (not-true v (c .if1 .taken))
