@@ -43,14 +43,14 @@ abbrev μ-loop : tie.MeasureT-loop
 
 loop-less : tie.Need-loop-less Inv-loop μ-loop
 loop-less c =
-    let i = c .before .before .before .before .before .before .before in
-    let p = i .before .before .loop in
+    let turn = c .before .before .before .before .before .before .before in
+    let p = turn .before .before .loop in
     let t = p .t in
     let n = c .before .before .before .before .before .read .result in
     let a = c .before .before .before .advance in
     let h : t .session .received < 2 ^ 64 = search needs in
     let f : left (a .result) < 2 ^ 64 - t .session .received = rw (a .ensures .0) (fewer (t .session) n (p .ram) h) in
-    not-over (left (a .result)) _ (t .over) (i .if1 .taken) f
+    not-over (left (a .result)) _ (t .over) (turn .if1 .taken) f
 
 pub main-spec : {M : Type 1} → statement M
 main-spec =

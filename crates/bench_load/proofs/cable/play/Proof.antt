@@ -14,22 +14,22 @@ Inv-loop bytes room₀ ram₀ words₀ last₀ i₀ room ram words last i =
 abbrev μ-loop : tie.MeasureT-loop
 μ-loop bytes room₀ ram₀ words₀ last₀ i₀ room ram words last i = length bytes - i
 
--- `turn` is where the loop's test has just let in the turn that ends here.
+-- where the loop's test has just let in the turn that ends here
+abbrev turn : tie.After-slice-known6 Inv-loop μ-loop → tie.In-loop Inv-loop μ-loop
+turn c = c .before .before .before .before .before .before .before .before .before .before .before
+
 add-i : tie.Need-add-i Inv-loop μ-loop
 add-i c =
-    let turn = c .before .before .before .before .before .before .before .before .before .before .before in
-    omega (arith, turn .loop-test .taken)
+    let t = turn c in
+    omega (arith, t .loop-test .taken, t .before .loop .inv)
 
 loop-less : tie.Need-loop-less Inv-loop μ-loop
-loop-less c =
-    let turn = c .before .before .before .before .before .before .before .before .before .before .before in
-    omega (arith, turn .loop-test .taken)
+loop-less c = let t = turn c in omega (arith, t .loop-test .taken)
 
 loop-again : tie.Need-loop-again Inv-loop μ-loop
 loop-again c =
-    let turn = c .before .before .before .before .before .before .before .before .before .before .before in
-    let inv = turn .before .loop .inv in
-    (omega (arith, turn .loop-test .taken), search (needs, inv .1), search (needs, inv .2), search (needs, inv .3))
+    let inv = turn c .before .loop .inv in
+    (omega (arith, turn c .loop-test .taken), search (needs, inv .1), search (needs, inv .2), search (needs, inv .3))
 
 pub play-spec : {M : Type 1} → statement M
 play-spec =

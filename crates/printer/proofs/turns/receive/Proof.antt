@@ -12,11 +12,19 @@ use Rattle.printer.proofs.turns.receive.Tie as tie
 returns : tie.Need-returns
 returns c = let e = eq-eqb _ (2 ^ 64 - 1) (c .before .if1 .taken) in (rw e (c .wait .ensures), rw e)
 
+-- the byte is received
+abbrev received : tie.After-is-over → tie.After-receive
+received c = c .before .before .before .before .before .before .before .before .before .before
+
+-- the count is not full
+abbrev counts : tie.After-receive → tie.Else1
+counts k = k .before .before .before .before .before .before
+
 returns-2 : tie.Need-returns-2
 unfolding afterReceive
 returns-2 c =
-    let k = c .before .before .before .before .before .before .before .before .before .before in
-    let n = ne-eqb _ (2 ^ 64 - 1) (k .before .before .before .before .before .before .if1 .left) in
+    let k = received c in
+    let n = ne-eqb _ (2 ^ 64 - 1) (counts k .if1 .left) in
     let e = c .before .end-line .ensures _ (c .before .before .reply .ensures .1) in
     (rw n (turn-as (k .receive .result) _ _ _ _ _ _ _ (k .receive .ensures) e (c .is-over .ensures)), rw n (ap (λ (o : Outcome). o .ram) (k .receive .ensures)))
 
