@@ -1,5 +1,5 @@
 /*
- * The peer that `receive` is measured against: document 01's head as ordinary C, its state behind a pointer. It hears what
+ * The peer that `receive` is measured against: document 01's head as ordinary C, its state behind a pointer. It receives what
  * crates/bench_load sends to the proved head, and prints the same lines. Link it with reference.c.
  */
 #include <stdint.h>
@@ -192,8 +192,8 @@ static int act(struct head *h, uint8_t *room, uint8_t *ram, uint32_t *uds)
     }
 }
 
-static int hear(struct head *h, uint8_t byte, uint8_t *room, size_t room_len, uint8_t *ram, size_t ram_len,
-                uint32_t *uds, size_t words)
+static int receive(struct head *h, uint8_t byte, uint8_t *room, size_t room_len, uint8_t *ram, size_t ram_len,
+                   uint32_t *uds, size_t words)
 {
     int answer = refusal(h, room_len, ram_len, words);
 
@@ -259,7 +259,7 @@ int main(void)
             uds[i] = 0x13121110;
         begin(&h, record, udi, RAM_LEN);
         for (size_t i = 0; i < n; i++)
-            hear(&h, frames[i], room, sizeof room, ram, sizeof ram, uds, 8);
+            receive(&h, frames[i], room, sizeof room, ram, sizeof ram, uds, 8);
         received += n;
     }
     printf("size %u\nreceived %llu\ncdi ", size, (unsigned long long)received);

@@ -37,7 +37,7 @@ KINDS = {
     "making": [f"answered {n}" for n in (0, 3, 40, 41, 42)],
     "reading": [f"answered {n}" for n in (0, 40, 41, 42, 43)],
     "taken": ["with status 0", "with status 1", "with a digest"],
-    "headlog": ["started", "had no RAM for it"],
+    "headlog": ["started", "had no RAM for it", "stopped with 25"],
 }
 
 
@@ -139,18 +139,18 @@ def reading(rng, calls):
     for length, k in [(300, 0), (300, 2), (300, 3)]:  # the load, a block, the last one
         for id, status in itertools.product(range(4), (0, 1)):
             right = server.reply(length, id, k, status, rng.randbytes(32))
-            for heard in [right, b"", *changed(right), *longer_or_shorter(rng, right)]:
-                calls.read(length, id, k, heard)
+            for reply in [right, b"", *changed(right), *longer_or_shorter(rng, right)]:
+                calls.read(length, id, k, reply)
     for length in [*LENGTHS, 2**32, 2**64 - 1]:
         for id, k in itertools.product(IDS, numbers(length)):
-            for heard in every_kind(rng, id % 4):
-                calls.read(length, id, k, heard)
+            for reply in every_kind(rng, id % 4):
+                calls.read(length, id, k, reply)
     for _ in range(2000):
         length = rng.choice([0, rng.randrange(1, 1200), rng.randrange(1, 131073), 131073, rng.randrange(2**64)])
         id = rng.choice([*range(4), *range(4), *IDS])
         k = min(HIGHEST, rng.choice([0, rng.randrange(server.blocks(length) + 1), server.blocks(length), server.blocks(length) + 1]))
-        heard = server.reply(length, id % 4, k, rng.randrange(2), rng.randbytes(32))
-        calls.read(length, id, k, rng.choice([heard, with_bit(rng, heard), rng.randbytes(len(heard)), rng.randbytes(rng.randrange(140))]))
+        reply = server.reply(length, id % 4, k, rng.randrange(2), rng.randbytes(32))
+        calls.read(length, id, k, rng.choice([reply, with_bit(rng, reply), rng.randbytes(len(reply)), rng.randbytes(rng.randrange(140))]))
 
 
 def changed(right):
@@ -176,9 +176,9 @@ def every_kind(rng, id):
     return [server.reply(128, id, k, rng.randrange(2), rng.randbytes(32)) for k in range(3)]
 
 
-def with_bit(rng, heard):
-    place, bit = rng.randrange(len(heard)), 1 << rng.randrange(8)
-    return heard[:place] + bytes([heard[place] ^ bit]) + heard[place + 1 :]
+def with_bit(rng, reply):
+    place, bit = rng.randrange(len(reply)), 1 << rng.randrange(8)
+    return reply[:place] + bytes([reply[place] ^ bit]) + reply[place + 1 :]
 
 
 # ---- the whole way
@@ -194,11 +194,11 @@ def frames(seen, program, id, secret, uss):
     return calls.run()[1:]
 
 
-def load(rng, seen, headlog, size, type, secret):
-    """Plays a program to a head: what went wrong, or nothing."""
+def load(rng, seen, headlog, size, type, secret, right=True):
+    """Plays a program to a head, of which type 5 requires the right digest or another: what went wrong, or nothing."""
     program, id, uds, udi = rng.randbytes(size), rng.randrange(4), rng.randbytes(32), rng.randbytes(8)
     digest = blake2s(program)
-    mask, required, measured_id = rng.randbytes(4), digest if type == TYPE_CLIENT_VER else rng.randbytes(32), rng.randbytes(32)
+    mask, required, measured_id = rng.randbytes(4), digest if type == TYPE_CLIENT_VER and right else rng.randbytes(32), rng.randbytes(32)
     record = type.to_bytes(4, "little") + mask + required + measured_id + rng.randbytes(184)
     sent = frames(seen, program, id, secret, rng.randbytes(32) if secret is None else secret)
     if size > PRINTER_RAM:
@@ -208,8 +208,10 @@ def load(rng, seen, headlog, size, type, secret):
     chained = mask[0] & 1
     hashed = uds + bytes([(secret is not None) + 2 * chained]) + (measured_id if chained else digest) + (b"" if secret is None else secret)
     wanted = f"S {size} {blake2s(hashed).hex()}" if size <= PRINTER_RAM else f"W {len(sent[0])}"
+    wanted = wanted if right else "F 25"
     if end != wanted or len(replies) != len(sent) or done.returncode != 0 or done.stderr:
         return f"{len(replies)} replies to {len(sent)} frames, then {end!r}, expected {wanted!r}"
+    seen["headlog", {"S": "started", "W": "had no RAM for it", "F": "stopped with 25"}[end[0]]] += 1
     return misread(seen, size, id, digest, [bytes.fromhex(line.removeprefix("R ")) for line in replies])
 
 
@@ -222,7 +224,6 @@ def misread(seen, size, id, digest, replies):
     for k, written in enumerate(calls.run()):
         if written != status + SPARE + (digest if k == server.blocks(size) else server.ZEROS):
             return f"frame {k} had the reply {replies[k].hex()}, which was read as {written.hex()}"
-    seen["headlog", "had no RAM for it" if size > PRINTER_RAM else "started"] += 1
     return None
 
 
@@ -238,6 +239,10 @@ def main(headlog):
             if what := load(rng, seen, headlog, size, type, secret):
                 print(f"c_client: program of {size} bytes, type {type}, secret {secret and secret.hex()}: {what}")
                 return 1
+    for size in SIZES:
+        if what := load(rng, seen, headlog, size, TYPE_CLIENT_VER, rng.randbytes(32), right=False):
+            print(f"c_client: program of {size} bytes, another digest required: {what}")
+            return 1
     print("c_client:", "; ".join(f"{part}: " + ", ".join(f"{seen[part, k]} {k}" for k in kinds) for part, kinds in KINDS.items()))
     return 0 if all(seen[part, k] for part, kinds in KINDS.items() for k in kinds) else 1
 

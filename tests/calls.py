@@ -20,7 +20,7 @@ BEGIN, RECEIVE, HASH_BEGIN, HASH_UPDATE, HASH_FINISH, READ_HEADER, WRITE_HEADER,
 def state_bytes(head):
     """A state as the program reads and writes it."""
     frame = struct.pack("<BB128s", head.frame.header, head.frame.got, bytes(head.frame.body))
-    config = struct.pack("<IB32sB32s8s", head.ram, head.verify, head.required, head.chained, head.measured_id, head.udi)
+    config = struct.pack("<QB32sB32s8s", head.ram, head.verify, head.required, head.chained, head.measured_id, head.udi)
     return frame + config + struct.pack("<BIIB32s", PHASES.index(head.phase), head.size, head.block, head.uss_used, head.uss)
 
 
@@ -31,6 +31,7 @@ def answer_bytes(answer):
 class Calls:
     def __init__(self):
         self.data = []
+        self.verified = 0  # random starts in which a digest was required
         self.wanted = []  # for each call: what it is, and what must be written, as pairs of a name and bytes
 
     def add(self, what, kind, call, *fields):
@@ -40,14 +41,14 @@ class Calls:
     # ---- the head
 
     def begin(self, what, record, udi, ram, answer, head):
-        call = struct.pack("<xxxHxx257sxxxI8s", len(record), bytes(record), ram, udi)
+        call = struct.pack("<xxxHxx257sxxxQ8s", len(record), bytes(record), ram, udi)
         self.add(what, BEGIN, call, ("answer", answer_bytes(answer)), ("state", state_bytes(head)))
 
     def receive(self, what, byte, lent, state, memory, answer, head, room, ram, words):
         """lent: the lengths of room, RAM and words. state and memory are bytes for the call to set before it, or nothing to go on with what
         is there. The rest is what there must be after it."""
-        call = struct.pack("<BBBHBB36s250s", byte, lent[0], lent[2], lent[1], state is not None, memory is not None, memory or b"", state or b"")
-        fields = [("answer", answer_bytes(answer)), ("reply length", struct.pack("<I", answer.reply)), ("CDI", answer.cdi), ("digest", answer.digest)]
+        call = struct.pack("<BBBHBB36s254s", byte, lent[0], lent[2], lent[1], state is not None, memory is not None, memory or b"", state or b"")
+        fields = [("answer", answer_bytes(answer)), ("reply length", struct.pack("<Q", answer.reply)), ("CDI", answer.cdi), ("digest", answer.digest)]
         fields += [("state", state_bytes(head)), ("room", bytes(room)), ("RAM", bytes(ram)), ("words", struct.pack("<9I", *words))]
         self.add(what, RECEIVE, call, *fields)
 

@@ -36,7 +36,7 @@ class Answer:
 
 @dataclass
 class Frame:
-    """The frame that is being heard: got counts the header, and is 0 between frames."""
+    """The frame that is being received: got counts the header, and is 0 between frames."""
 
     header: int = 0
     got: int = 0
@@ -98,7 +98,7 @@ class Head:
 
     # ---- a byte
 
-    def hear(self, byte, room, ram, words):
+    def receive(self, byte, room, ram, words):
         refused = self.refusal(room, ram, words)
         if refused:
             return Answer("X", refused)
@@ -219,16 +219,16 @@ def headlog(data):
     lines = []
     at = PREFIX
     while answer.kind == "W" and at < len(data):
-        answer = head.hear(data[at], room, ram, words)
+        answer = head.receive(data[at], room, ram, words)
         at += 1
         if answer.reply:
             lines.append(f"R {room[:answer.reply].hex()}")
     return lines + [last_line(answer, at - PREFIX)], at
 
 
-def last_line(answer, heard):
+def last_line(answer, received):
     if answer.kind == "W":
-        return f"W {heard}"
+        return f"W {received}"
     if answer.kind == "S":
         return f"S {answer.number} {answer.cdi.hex()}"
     return f"F {answer.number}"

@@ -88,9 +88,9 @@ def headlog():
 def bad_sizes():
     """A size of 0, or over the RAM's length, gets status 1, and the head goes on waiting: 131,073 is too large for every head."""
     sizes = [0, 131073, RAM + 1, RAM]
-    heard = b"".join(load(size, frame_id=k) for k, size in enumerate(sizes))
+    received = b"".join(load(size, frame_id=k) for k, size in enumerate(sizes))
     replies = [load_reply(int(not 1 <= size <= RAM), k) for k, size in enumerate(sizes)]
-    return record(4) + UDS + UDI + heard, [*replies, f"W {len(heard)}"]
+    return record(4) + UDS + UDI + received, [*replies, f"W {len(received)}"]
 
 
 def with_flag(flag):
@@ -101,13 +101,13 @@ def with_flag(flag):
 
 def flag_2():
     """Any other flag gets status 1, and the head goes on waiting. Nothing of that load is in the start after the next one."""
-    heard = load(100, 2, USS[::-1]) + load(len(PROGRAM), 1, USS, frame_id=1) + b"".join(blocks(PROGRAM))
-    return record(4) + UDS + UDI + heard, [load_reply(1), load_reply(0, 1), *block_replies(PROGRAM), start(PROGRAM, USS)]
+    received = load(100, 2, USS[::-1]) + load(len(PROGRAM), 1, USS, frame_id=1) + b"".join(blocks(PROGRAM))
+    return record(4) + UDS + UDI + received, [load_reply(1), load_reply(0, 1), *block_replies(PROGRAM), start(PROGRAM, USS)]
 
 
 def load_while_loading():
-    heard = load(RAM) + load(RAM, frame_id=1)
-    return record(4) + UDS + UDI + heard, [load_reply(0), "F 23"]
+    received = load(RAM) + load(RAM, frame_id=1)
+    return record(4) + UDS + UDI + received, [load_reply(0), "F 23"]
 
 
 def name_with_body_4():
@@ -117,7 +117,7 @@ def name_with_body_4():
 def sample():
     """A head that requires a digest: queries, a frame that is passed over, a load with a user secret, and a start."""
     program = b"".join(f"thread {i:03} to hook {(7 * i + 3) % 400:03}\n".encode() for i in range(20))
-    heard = [
+    received = [
         frame(b"\x01"),
         frame(b"\x08", frame_id=1),
         frame(b"\x2a".ljust(32, b"\0"), endpoint=3),
@@ -133,7 +133,7 @@ def sample():
         *block_replies(program),
         start(program, USS),
     ]
-    return record(5, digest=blake2s(program)) + UDS + UDI + b"".join(heard), lines
+    return record(5, digest=blake2s(program)) + UDS + UDI + b"".join(received), lines
 
 
 ITEMS = {

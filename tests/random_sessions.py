@@ -84,7 +84,7 @@ def main(program):
     if headlog(EXAMPLE)[0] != EXAMPLE_LINES:
         print("head.py does not print the document's example")
         return 1
-    seen, heard, failures = Counter(), 0, 0
+    seen, received, failures = Counter(), 0, 0
     for seed in range(SESSIONS):
         s, data = session(seed)
         lines, read = headlog(data)
@@ -95,13 +95,13 @@ def main(program):
             print("the sessions after these are not played")
             return 1
         seen.update(kinds(s, lines))
-        heard += max(0, read - PREFIX)
-    return report(seen, heard) or failures > 0
+        received += max(0, read - PREFIX)
+    return report(seen, received) or failures > 0
 
 
-def report(seen, heard):
+def report(seen, received):
     """Counts; 1 if a kind never came up."""
-    print(f"{SESSIONS} sessions, {heard} bytes heard")
+    print(f"{SESSIONS} sessions, {received} bytes received")
     for name, wanted in [("ends", ENDS), ("starts", STARTS), ("replies", REPLIES.values())]:
         print(f"{name}: " + "; ".join(f"{k}: {seen[k]}" for k in wanted))
     missing = [k for k in [*ENDS, *STARTS, *REPLIES.values(), *EDGES] if not seen[k]]

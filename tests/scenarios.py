@@ -84,7 +84,7 @@ class Session:
     def offer(self, byte, room=calls.ROOM, ram=RAM, words=8):
         """A call with so much lent. What is not lent must stay too."""
         lent = [bytearray(b"\xee" * room), self.ram[:ram], self.words[:words]]
-        self.answer = self.head.hear(byte, *lent)
+        self.answer = self.head.receive(byte, *lent)
         self.ram[:ram], self.words[:words] = lent[1:]
         rest = b"\xee" * (calls.ROOM - room)
         what = f"{self.what}, byte {byte:02x}"
@@ -202,7 +202,7 @@ def begin_with(made, what, record, ram=RAM, udi=UDI):
 
 def begins(made):
     record = b"\4" + bytes(256)
-    for n, ram in [(0, RAM), (255, RAM), (257, RAM), (256, 0), (256, 131073), (255, 0), (256, 1), (256, 131072), (256, RAM)]:
+    for n, ram in [(0, RAM), (255, RAM), (257, RAM), (256, 0), (256, 131073), (256, 2**32 + RAM), (255, 0), (256, 1), (256, 131072), (256, RAM)]:
         begin_with(made, f"begin: record {n}, RAM {ram}", record[:n], ram)
     for kind in [0, 1, 2, 3, 4, 5, 6, 2**32 - 1, 0x104, 0x10005, 0x1000000]:
         begin_with(made, f"begin: type {kind}", kind.to_bytes(4, "little") + bytes(252))
@@ -238,7 +238,7 @@ OUT_OF_RANGE = {
         last_block(0x13, 0),
     ],
     # The last two are in range, but what is lent has another length.
-    "RAM": [last_of_query(ram=0), last_of_query(ram=131073), last_of_query(ram=1), last_of_query(ram=131072)],
+    "RAM": [last_of_query(ram=0), last_of_query(ram=131073), last_of_query(ram=2**32 + RAM), last_of_query(ram=1), last_of_query(ram=131072)],
     "waiting": [last_of_query(size=1), last_of_query(block=1), last_of_query(uss_used=True), last_of_query(uss=bytes(31) + b"\1")],
     "loading": [
         last_block(size=0),
@@ -307,15 +307,27 @@ def random_head(rng):
     return head
 
 
+def measured(head, byte):
+    """The digest that the program has if this byte ends its last block."""
+    ram = bytearray(b"\xaa" * RAM)
+    carried = bytes(head.frame.body[1:-1]) + bytes([byte])
+    start = 127 * head.block
+    ram[start : start + 127] = carried[: max(0, RAM - start)]
+    return blake2s(ram[: head.size])
+
+
 def random_calls(made):
     rng = random.Random(7)
     for k in range(RANDOM_CALLS):
         head = random_head(rng)
+        byte = rng.choice([0x01, 0x03, 0x05, 0x08, 0x10, 0xAA, rng.randrange(256)])
         lengths = dict(room=rng.choice([160] * 9 + [129, 128, 0]), ram=rng.choice([head.ram] * 9 + [299, 301]) % 302, words=rng.choice([8] * 9 + [7, 9]))
-        if head.phase == "loading" and 1 <= head.size <= RAM and rng.random() < 0.5:
-            head.required = blake2s(b"\xaa" * head.size)  # never right, but for a block of 0xaa
+        if rng.random() < 0.5:
+            head.required = measured(head, byte)
+        verify = head.verify
         s = Session(f"random call {k}", made, head, [rng.randrange(2**32) for _ in range(8)])
-        s.offer(rng.choice([0x01, 0x03, 0x05, 0x08, 0x10, 0xAA, rng.randrange(256)]), **lengths)
+        s.offer(byte, **lengths)
+        made.verified += verify and s.answer.kind == "S"
 
 
 # ---- document 01's example, which is what the gate's run of the program has on standard input
@@ -359,8 +371,8 @@ def main():
         print(f"scenarios: {what}")
         return 1
     seen = Counter(kind for kind in made.answers())
-    print(f"scenarios: {len(made.data)} calls; " + ", ".join(f"{seen[k]} {k}" for k in KINDS))
-    return 0 if all(seen[k] for k in KINDS) else 1
+    print(f"scenarios: {len(made.data)} calls; " + ", ".join(f"{seen[k]} {k}" for k in KINDS) + f"; {made.verified} random starts with a required digest")
+    return 0 if made.verified and all(seen[k] for k in KINDS) else 1
 
 
 if __name__ == "__main__":

@@ -36,12 +36,12 @@ def reply(length, id, k, status, digest):
     return whole(id, bytes([4 if k == 0 else 6, status]), 4)
 
 
-def read(length, id, k, heard):
+def read(length, id, k, received):
     """The number, and status and digest of a reply that is taken. Ours: 32 zeros for a digest that is not expected."""
     if number := refusal(length, id, k):
         return number, None, None
-    digest = heard[3:35] if k == blocks(length) else ZEROS
+    digest = received[3:35] if k == blocks(length) else ZEROS
     for status in (0, 1):
-        if len(digest) == 32 and heard == reply(length, id, k, status, digest):
+        if len(digest) == 32 and received == reply(length, id, k, status, digest):
             return 0, status, digest
     return 43, None, None

@@ -21,7 +21,7 @@ def refusal(size=32, begun=None, key=0, total=0, in_range=True):
 
     size is the output's length and begun the one that begin was told, if it was called before.
     """
-    numbers = [0]
+    numbers = []
     if not in_range:
         numbers.append(1)
     if size == 0 or size > 32 or (begun is not None and size != begun):
@@ -30,7 +30,7 @@ def refusal(size=32, begun=None, key=0, total=0, in_range=True):
         numbers.append(9)
     if total > LONGEST:
         numbers.append(10)
-    return min(numbers[1:], default=0)
+    return min(numbers, default=0)
 
 
 def counting(n, first=0):
@@ -48,7 +48,7 @@ class Hash:
         made.hash_begin(f"{what}, begin", key, size, message, number, self.context())
 
     def context(self):
-        return [("message, keyed and size", struct.pack("<IBI", self.total, self.keyed, self.size))]
+        return [("message, keyed and size", struct.pack("<IBQ", self.total, self.keyed, self.size))]
 
     def update(self, part):
         number = refusal(total=self.total + len(part), in_range=self.hash is not None)

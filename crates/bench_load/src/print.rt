@@ -6,8 +6,8 @@ use libc::STDOUT_FILENO;
 pub fn report(size: u32, l: Loaded) {
     let last = l.last;
     let cdi = last.cdi;
-    number(b"size ", size as u64);
-    number(b"received ", l.received);
+    numbered(b"size ", size as u64);
+    numbered(b"received ", l.received);
     label(b"cdi ");
     digits(&cdi);
     label(b"\n");
@@ -17,7 +17,7 @@ fn label(name: &[u8]) {
     io::write_all(STDOUT_FILENO, name);
 }
 
-fn number(name: &[u8], n: u64) {
+fn numbered(name: &[u8], n: u64) {
     label(name);
     io::print_decimal(STDOUT_FILENO, n);
     label(b"\n");

@@ -36,7 +36,7 @@ unfolding earlier
 earlier-sum m k = omega arith
 
 -- a block that is padded gives back its bytes
-pub take-padded : (x : List ℕ) (n : ℕ) → length x ≡ n → take n (padded 64 x) ≡ x
+take-padded : (x : List ℕ) (n : ℕ) → length x ≡ n → take n (padded 64 x) ≡ x
 take-padded x n e = take-at x _ n e
 
 pub total-bound : (c : Context) → total c ≤ c .message + 64

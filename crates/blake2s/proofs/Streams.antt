@@ -47,7 +47,7 @@ begun-total key nn = go (eqb (length key) 0)
     go true = refl
     go false = refl
 
-pub begun-done : (key : List ℕ) (nn : ℕ) → done (begun key nn) ≡ 0
+begun-done : (key : List ℕ) (nn : ℕ) → done (begun key nn) ≡ 0
 unfolding done earlier
 begun-done key nn = rw (begun-total key nn) (go (eqb (length key) 0))
   where

@@ -4,10 +4,10 @@ use Prim.Native.Nat.{ℕ, _+_, _-_, _*_, _/_}
 use mathlib.Core.Bool.{Bool, true, false, cond, not}
 use mathlib.Core.List.{List, _++_}
 use lib.Dec.{eqb}
-use lib.ListN.{length, take, replicate}
+use lib.ListN.{length, take}
 use Rattle.rfc7693.specs.Rfc7693.{bb, words, F, blockAt, leading, compressed, initial}
 use Rattle.endian.specs.Endian.{bytes}
-use Rattle.endian.specs.Lists.{padded}
+use Rattle.endian.specs.Lists.{padded, zeros}
 use Rattle.blake2s.specs.Hash.{badSize, tooLong, kept, hashNumber}
 use Rattle.blake2s.specs.declared.Context.{Context}
 
@@ -32,7 +32,7 @@ unfoldable pub begun : List ℕ → ℕ → Context
 begun key nn =
     record {
       h = initial (length key) nn;
-      block = padded 64 key;
+      block = padded bb key;
       message = 0;
       keyed = not (eqb (length key) 0);
       size = nn;
@@ -53,7 +53,7 @@ extended c s =
 
 -- the hash: what waits is the final block
 unfoldable pub closed : Context → List ℕ
-closed c = take (c .size) (bytes (F (c .h) (words (padded 64 (waiting c))) (total c) true))
+closed c = take (c .size) (bytes (F (c .h) (words (padded bb (waiting c))) (total c) true))
 
 -- the range of a context's fields: its size is that of a hash, and every other field may hold anything
 unfoldable pub inRange : Context → Bool
@@ -65,7 +65,7 @@ beginNumber kk nn = hashNumber kk 0 nn
 
 -- what a refused begin hands back: a context out of range, so that no later call takes it
 unfoldable pub refusedContext : Context
-refusedContext = record { h = replicate 8 0; block = replicate 64 0; message = 0; keyed = false; size = 0 }
+refusedContext = record { h = zeros 8; block = zeros 64; message = 0; keyed = false; size = 0 }
 
 unfoldable pub beginContext : List ℕ → ℕ → Context
 beginContext key nn = kept (beginNumber (length key) nn) (begun key nn) refusedContext

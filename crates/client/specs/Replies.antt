@@ -3,10 +3,10 @@ use Prim.Native.Nat.{ℕ, _+_, _-_}
 use mathlib.Core.Bool.{Bool, true, false, cond, _&&_}
 use mathlib.Core.List.{List, [], _∷_}
 use lib.Dec.{eqb, leb}
-use lib.ListN.{length, getD, take, drop, replicate}
+use lib.ListN.{length, getD, take, drop}
 use Rattle.framing.specs.Header.{Reading, good, stop, headerAt}
 use Rattle.protocol.specs.Commands.{firmware, isLast}
-use Rattle.endian.specs.Lists.{padded}
+use Rattle.endian.specs.Lists.{padded, zeros}
 use Rattle.client.specs.Answers.{numberOf}
 use Rattle.client.specs.Frames.{refusal}
 use Rattle.client.specs.declared.Taken.{Taken}
@@ -67,7 +67,7 @@ takingOf t = takingAs (numberOf (t .answer)) (t .status) (t .digest)
 
 -- a refused reading gives neither status nor digest
 abbrev pub refusedWith : ℕ → Taking
-refusedWith k = takingAs k 0 (replicate 32 0)
+refusedWith k = takingAs k 0 (zeros 32)
 
 abbrev pub takenAs : Expected → ℕ → List ℕ → Taking
 takenAs x id r = cond (isExpected x id r) (takingAs 0 (statusIn r) (digestIn x r)) (refusedWith 43)

@@ -8,7 +8,7 @@ use lib.ListN.{length, getD, replicate}
 use Rattle.framing.specs.Header.{good, headerAt, headerByte}
 use Rattle.protocol.specs.Commands.{firmware, blocksFor, isLast}
 use Rattle.protocol.specs.Replies.{written, sent, loadReply, blockReply, digestReply}
-use Rattle.endian.specs.Lists.{padded}
+use Rattle.endian.specs.Lists.{padded, zeros}
 use Rattle.client.specs.Answers.{numberOf}
 use Rattle.client.specs.Frames.{refusal, secretOf, commandHeader, commandFrame}
 use Rattle.client.specs.Replies.{expectedReply, takingAs, taking}
@@ -33,9 +33,9 @@ pub record Client : Type 0 where
   pub frame : (program : List ℕ) (id : ℕ) (s : Secret) (k : ℕ) → length (s .uss) ≡ 32 → length (commandFrame program id s k) ≡ 129
   pub header : (id : ℕ) → id ≤ 3 → headerAt (commandHeader id) ≡ good id firmware 128
   -- the frames of a program of one byte with ID 1, as literal bytes: the load with a user secret and with none, and the block
-  pub example : (commandFrame (0xaa ∷ []) 1 (secretOf true (replicate 32 0xbb)) 0 ≡ 0x33 ∷ 0x03 ∷ 1 ∷ 0 ∷ 0 ∷ 0 ∷ 1 ∷ replicate 32 0xbb ++ replicate 90 0)
-      × (commandFrame (0xaa ∷ []) 1 (secretOf false (replicate 32 0xbb)) 0 ≡ 0x33 ∷ 0x03 ∷ 1 ∷ replicate 126 0)
-      × (commandFrame (0xaa ∷ []) 1 (secretOf false (replicate 32 0xbb)) 1 ≡ 0x33 ∷ 0x05 ∷ 0xaa ∷ replicate 126 0)
+  pub example : (commandFrame (0xaa ∷ []) 1 (secretOf true (replicate 32 0xbb)) 0 ≡ 0x33 ∷ 0x03 ∷ 1 ∷ 0 ∷ 0 ∷ 0 ∷ 1 ∷ replicate 32 0xbb ++ zeros 90)
+      × (commandFrame (0xaa ∷ []) 1 (secretOf false (replicate 32 0xbb)) 0 ≡ 0x33 ∷ 0x03 ∷ 1 ∷ zeros 126)
+      × (commandFrame (0xaa ∷ []) 1 (secretOf false (replicate 32 0xbb)) 1 ≡ 0x33 ∷ 0x05 ∷ 0xaa ∷ zeros 126)
   -- a reply is taken exactly when it is the expected one, and then its status is given, and the digest if it has one
   pub takes : (n id k : ℕ) (r : List ℕ) → getD r 0 0 < 2 ^ 8
       → (taking n id k r .number ≡ 0) ↔ ((refusal n id k ≡ 0) × Expects (expectedReply n k) id r)
@@ -43,8 +43,8 @@ pub record Client : Type 0 where
       → taking n id k r ≡ takingAs 0 (e .status) (padded 32 (e .digest))
   -- so are the replies that `protocol` writes to these frames
   pub to-load : (n id : ℕ) (good : Bool) → refusal n id 0 ≡ 0
-      → taking n id 0 (sent (loadReply (commandHeader id) good)) ≡ takingAs 0 (cond good 0 1) (replicate 32 0)
+      → taking n id 0 (sent (loadReply (commandHeader id) good)) ≡ takingAs 0 (cond good 0 1) (zeros 32)
   pub to-block : (n id k : ℕ) → refusal n id k ≡ 0 → 1 ≤ k → isLast n (k - 1) ≡ false
-      → taking n id k (sent (blockReply (commandHeader id))) ≡ takingAs 0 0 (replicate 32 0)
+      → taking n id k (sent (blockReply (commandHeader id))) ≡ takingAs 0 0 (zeros 32)
   pub to-last : (n id k : ℕ) (digest : List ℕ) → refusal n id k ≡ 0 → 1 ≤ k → isLast n (k - 1) ≡ true → length digest ≡ 32
       → taking n id k (sent (digestReply (commandHeader id) digest)) ≡ takingAs 0 0 digest

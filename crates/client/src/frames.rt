@@ -3,7 +3,7 @@ ghost use mathlib.Core.Path.{_≡_};
 ghost use Prim.Native.Nat.{_+_, _-_, _<_, _≤_};
 ghost use mathlib.Core.List.{_∷_};
 ghost use lib.ListN.{length};
-ghost use Rattle.protocol.specs.Commands.{placeOf, blocksFor};
+ghost use Rattle.protocol.specs.Commands.{longest, placeOf, blocksFor};
 ghost use Rattle.protocol.specs.Replies.{putIn};
 ghost use Rattle.client.specs.Frames.{commandHeader, loadBody, blockBody, commandBody};
 use super::Secret;
@@ -38,7 +38,7 @@ fn load_body(size: u32, secret: Secret) -> [u8; 128]
 
 // The body of a block.
 fn block_body(program: &[u8], block: u32) -> [u8; 128]
-    requires { ⌜ length (now program) ≤ 131072 ⌝ }
+    requires { ⌜ length (now program) ≤ longest ⌝ }
     requires { ⌜ placeOf block < length (now program) ⌝ }
     ensures { λ r. ⌜ r ≡ blockBody (now (program .entry)) block ⌝ }
 {
@@ -52,7 +52,7 @@ fn block_body(program: &[u8], block: u32) -> [u8; 128]
 
 // The body of command frame k.
 pub fn body(program: &[u8], secret: Secret, k: u32) -> [u8; 128]
-    requires { ⌜ (1 ≤ length (now program)) × (length (now program) ≤ 131072) ⌝ }
+    requires { ⌜ (1 ≤ length (now program)) × (length (now program) ≤ longest) ⌝ }
     requires { ⌜ k ≤ blocksFor (length (now program)) ⌝ }
     ensures { λ r. ⌜ r ≡ commandBody (now (program .entry)) secret k ⌝ }
 {

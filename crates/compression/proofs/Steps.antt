@@ -25,7 +25,7 @@ unfolding fourMixings
 mixed m s k u a b c d = rw (d, c, b, a)
 
 -- the two steps of a round, one after the other
-pub both-steps : (m s v : List ℕ) → fourMixings m s 4 (fourMixings m s 0 v) ≡ round m s v
+both-steps : (m s v : List ℕ) → fourMixings m s 4 (fourMixings m s 0 v) ≡ round m s v
 unfolding fourMixings positions
 both-steps = over-table
 

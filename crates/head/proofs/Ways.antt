@@ -48,7 +48,7 @@ continued-ok i b (good id ep n) e =
     (λ l. by-test GoesOn (eqb ep 2) _ _ (λ x m. impossible cc) (λ x m. refl))
 continued-ok i b (stop k) e = λ m. impossible cc
 
-pub gathered-ok : (i : Incoming) (b : ℕ) → GoesOn (gathered i b)
+gathered-ok : (i : Incoming) (b : ℕ) → GoesOn (gathered i b)
 unfolding gathered
 gathered-ok i b = by-test GoesOn (eqb (i .got) 0) _ _ (λ x. opened-ok i b (headerAt b) refl) (λ x. continued-ok i b (headerAt (i .header)) refl)
 

@@ -58,7 +58,7 @@ fn action_in(phase: Phase, command: u8, len: u8) -> Action
     }
 }
 
-// The frame that was gathered.
+// What the frame that was gathered asks for.
 pub fn decide(s: State) -> Action
     ensures { λ r. ⌜ r ≡ actionOf s ⌝ }
 {

@@ -4,14 +4,14 @@ ghost use mathlib.Core.Bool.{true};
 ghost use Prim.Native.Nat.{ℕ, _+_, _<_, _≤_};
 ghost use mathlib.Core.List.{List};
 ghost use lib.ListN.{length};
+ghost use Rattle.protocol.specs.Commands.{longest};
 ghost use Rattle.protocol.specs.Replies.{nameReply, udiReply};
 ghost use Rattle.head.specs.State.{progressOk, loadingOk, ended};
 ghost use Rattle.head.specs.Answers.{outcome};
-ghost use Rattle.head.specs.Machine.{between, loaded, afterLoad, loadAnswer, nextBlock, allowed, starting, finished, actedBlock, acted};
+ghost use Rattle.head.specs.Machine.{between, loaded, afterLoad, loadAnswer, nextBlock, starting, finished, actedBlock, acted};
 ghost use Rattle.loader.specs.Steps.{plainly, Replies, frameOf};
 use head::Action;
 use head::Answer;
-use head::Config;
 use head::Incoming;
 use head::Phase;
 use head::Progress;
@@ -126,7 +126,7 @@ fn act_load(s: State, room: &mut [u8]) -> Received
 
 // The progress after a block that is not the last.
 fn next_block(p: Progress) -> Progress
-    requires { ⌜ p .block < 131072 ⌝ }
+    requires { ⌜ p .block < longest ⌝ }
     ensures { λ r. ⌜ r ≡ nextBlock p ⌝ }
 {
     let mut next = p;
@@ -161,7 +161,7 @@ fn start(s: State, digest: [u8; 32], uds: &mut [u32]) -> Received
 // After the last block the program is measured, its digest is given, and the head starts or stops.
 fn finish(s: State, room: &mut [u8], ram: &mut [u8], uds: &mut [u32]) -> Received
     requires { ⌜ 129 ≤ length (now room) ⌝ }
-    requires { ⌜ (s .progress .size ≤ length (now ram)) × (s .progress .size ≤ 131072) ⌝ }
+    requires { ⌜ (s .progress .size ≤ length (now ram)) × (s .progress .size ≤ longest) ⌝ }
     requires { ⌜ length (now uds) ≡ 8 ⌝ }
     ensures { λ r. ⌜ outcome r (now (room .exit)) (now (ram .exit)) (now (uds .exit)) ≡ finished s (now (room .entry)) (now (ram .entry)) (now (uds .entry)) ⌝ }
 {
@@ -184,7 +184,7 @@ fn finish(s: State, room: &mut [u8], ram: &mut [u8], uds: &mut [u32]) -> Receive
 fn act_block(s: State, room: &mut [u8], ram: &mut [u8], uds: &mut [u32]) -> Received
     requires { ⌜ 129 ≤ length (now room) ⌝ }
     requires { ⌜ loadingOk (s .progress) (length (now ram)) ≡ true ⌝ }
-    requires { ⌜ length (now ram) ≤ 131072 ⌝ }
+    requires { ⌜ length (now ram) ≤ longest ⌝ }
     requires { ⌜ length (now uds) ≡ 8 ⌝ }
     ensures { λ r. ⌜ outcome r (now (room .exit)) (now (ram .exit)) (now (uds .exit)) ≡ actedBlock s (now (room .entry)) (now (ram .entry)) (now (uds .entry)) ⌝ }
 {
@@ -201,7 +201,7 @@ fn act_block(s: State, room: &mut [u8], ram: &mut [u8], uds: &mut [u32]) -> Rece
 pub fn act(s: State, room: &mut [u8], ram: &mut [u8], uds: &mut [u32]) -> Received
     requires { ⌜ progressOk (s .progress) (length (now ram)) ≡ true ⌝ }
     requires { ⌜ 129 ≤ length (now room) ⌝ }
-    requires { ⌜ length (now ram) ≤ 131072 ⌝ }
+    requires { ⌜ length (now ram) ≤ longest ⌝ }
     requires { ⌜ length (now uds) ≡ 8 ⌝ }
     ensures { λ r. ⌜ outcome r (now (room .exit)) (now (ram .exit)) (now (uds .exit)) ≡ acted s (now (room .entry)) (now (ram .entry)) (now (uds .entry)) ⌝ }
 {

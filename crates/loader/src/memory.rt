@@ -6,7 +6,7 @@ ghost use lib.ListN.{length, take};
 ghost use lib.Seq.{paste};
 ghost use Rattle.rfc7693.specs.Rfc7693.{blake2s};
 ghost use Rattle.endian.specs.Endian.{bytes};
-ghost use Rattle.protocol.specs.Commands.{bytesOf, placeOf, countIn};
+ghost use Rattle.protocol.specs.Commands.{longest, bytesOf, placeOf, countIn};
 ghost use Rattle.protocol.specs.Replies.{sent, putIn};
 ghost use Rattle.head.specs.Machine.{storedIn};
 use protocol::Frame;
@@ -46,7 +46,7 @@ pub fn store(ram: &mut [u8], f: Frame, size: u32, block: u32)
 
 // Measures the program: BLAKE2s-256 of the first n bytes of RAM.
 pub fn measure(ram: &[u8], n: usize) -> [u8; 32]
-    requires { ⌜ (n ≤ length (now ram)) × (n ≤ 131072) ⌝ }
+    requires { ⌜ (n ≤ length (now ram)) × (n ≤ longest) ⌝ }
     ensures { λ r. ⌜ r ≡ blake2s [] (take n (now (ram .entry))) 32 ⌝ }
 {
     let mut digest = [0u8; 32];

@@ -16,7 +16,7 @@ ten-pos : (k : ℕ) → 0 < 10 ^ k
 ten-pos zero = omega arith
 ten-pos (suc k) = let p = ten-pos k in rw (pow-suc 10 k) (omega arith)
 
-pub decimal-is : (k r n : ℕ) → r ≤ k → Fewest 10 1 n r → digits 10 r n ≡ decimalIn k n
+decimal-is : (k r n : ℕ) → r ≤ k → Fewest 10 1 n r → digits 10 r n ≡ decimalIn k n
 decimal-is k zero n h f = absurd (not-suc-le-zero (f .0))
 decimal-is zero (suc r) n h f = absurd (not-suc-le-zero h)
 decimal-is (suc k) (suc zero) n h f =

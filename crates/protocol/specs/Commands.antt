@@ -10,8 +10,11 @@ use Rattle.protocol.specs.declared.Frame.{Frame}
 use Rattle.protocol.specs.declared.Load.{Load}
 
 -- a program has 1 to 131,072 bytes, and so has RAM
+abbrev pub longest : ℕ
+longest = 131072
+
 abbrev pub lengthOk : ℕ → Bool
-lengthOk n = leb 1 n && leb n 131072
+lengthOk n = leb 1 n && leb n longest
 
 abbrev pub bytesOf : Frame → List ℕ
 bytesOf f = f .header ∷ f .body

@@ -8,11 +8,11 @@ use mathlib.Core.Path.{subst, sym}
 use lib.Dec.{T}
 use lib.ListN.{length, getD}
 
-pub and-left : (a b : Bool) → T (a && b) → T a
+and-left : (a b : Bool) → T (a && b) → T a
 and-left true b t = tt
 and-left false b t = t
 
-pub and-right : (a b : Bool) → T (a && b) → T b
+and-right : (a b : Bool) → T (a && b) → T b
 and-right true b t = t
 and-right false b t = absurd t
 

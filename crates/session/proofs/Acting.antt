@@ -26,7 +26,7 @@ use Rattle.head.specs.Machine.{actionIn, frameIn, storedIn, replying, loadAnswe
 use Rattle.head.proofs.Same.{same-refl, same-eq}
 use Rattle.head.proofs.Ranges.{never, by-test, length-some}
 use Rattle.session.specs.Reading.{Good, forFirmware, bodyOf, QueryFrame, LoadFrame, Opens, BlockFrame, carried, sizeOf, programOf, digestOf, Allowed, chained, measuredId}
-use Rattle.session.proofs.Frames.{All-append}
+use Rattle.session.proofs.Frames.{All-append, good-some}
 use Rattle.session.proofs.Gathering.{holding, length-snoc}
 use Rattle.session.proofs.Shapes.{AskedWaiting, asks-name, asks-udi, asks-load, wrong-command, wrong-length, asked-waiting, AskedLoading, asks-block, no-command, no-length, asked-loading, Shape, one-shape, next-is, no-load, carried-snoc, carries-127, carried-length, load-size, All-last}
 use Rattle.head.specs.declared.Phase.the-variants as phase
@@ -299,7 +299,7 @@ module _ (rec udi : List ℕ) (m : ℕ) where
 
     pub acts : (f : List ℕ) → forFirmware f ≡ true → Good f → (p : Progress) → Doing ram os p → Acts room uds os f (acted (at (holding f) p) room ram uds)
     unfolding acted
-    acts [] o w p d = absurd (let e : 0 ≡ 1 + w .n = w .whole in omega arith)
+    acts [] o w p d = absurd (good-some w)
     acts (h ∷ []) o w p d =
         absurd (let l = length-some h (w .id) (w .ep) (w .n) (w .header) in let e : 1 ≡ 1 + w .n = w .whole in omega arith)
     acts (h ∷ x ∷ q) o w p d =

@@ -14,7 +14,7 @@ use Rattle.head.specs.Machine.{gathered, withIncoming, afterByte, processed}
 use Rattle.endian.specs.Lists.{All}
 use Rattle.session.specs.Reading.{Good, forFirmware, own, sizeOf, Starting}
 use Rattle.session.specs.Session.{Call}
-use Rattle.session.proofs.Frames.{All-append, own-append, flatten-snoc, own-more, own-same, same-size, Further, reads-on}
+use Rattle.session.proofs.Frames.{All-append, own-append, flatten-snoc, own-more, own-same, same-size, Further, reads-on, good-some}
 use Rattle.session.proofs.Gathering.{holding, Partial, Gathers, at-bad, at-part, at-passed, at-whole, gathers}
 use Rattle.session.proofs.Shapes.{Shape}
 use Rattle.session.proofs.Acting.{empty-rest, grows, at, Doing, Complete, not-yet, Leaves, Replies, Acts, goes, starts, stops, acts}
@@ -27,7 +27,7 @@ use Rattle.head.specs.declared.Gathered.{Gathered}
 none-partial : (p : List ℕ) (hs : List (List ℕ)) → Partial p → All Good hs → p ≡ flatten hs → hs ≡ []
 unfolding flatten
 none-partial p [] v a e = refl
-none-partial p ([] ∷ hs) v a e = absurd (let l : 0 ≡ 1 + a .0 .n = a .0 .whole in omega arith)
+none-partial p ([] ∷ hs) v a e = absurd (good-some (a .0))
 none-partial [] ((k ∷ f) ∷ hs) v a e = impossible cc
 none-partial (h ∷ p) ((k ∷ f) ∷ hs) v a e =
     let eh : h ≡ k = head-eq-of-cons-eq e in
@@ -42,7 +42,7 @@ none-partial (h ∷ p) ((k ∷ f) ∷ hs) v a e =
 no-bad : (b : ℕ) (rest : List ℕ) (hs : List (List ℕ)) → headerAt b ≡ stop 22 → All Good hs → b ∷ rest ≡ flatten hs → ⊥
 unfolding flatten
 no-bad b rest [] x a e = impossible cc
-no-bad b rest ([] ∷ hs) x a e = let l : 0 ≡ 1 + a .0 .n = a .0 .whole in omega arith
+no-bad b rest ([] ∷ hs) x a e = good-some (a .0)
 no-bad b rest ((k ∷ f) ∷ hs) x a e =
     let eh : b ≡ k = head-eq-of-cons-eq e in
     let g : Good (k ∷ f) = a .0 in

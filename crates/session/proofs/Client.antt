@@ -142,17 +142,14 @@ module _ (prog : List ℕ) (id : ℕ) (secret : Secret) (makes : Made prog id se
         → (rest ≡ [] → ⊥) → CallReply rec udi m c bs o → Replied prog id secret i (record { call = c; out = o })
     replied rec udi c bs rest o i li e left s = by-part (s .part) (s .whole) (s .says)
       where
-        one-header : headerAt (commandHeader id) ≡ good id firmware 128
-        one-header = made.frame-header prog id secret makes
-
         at-place : (h : ℕ) (p : List ℕ) → Place prog id secret makes (suc (blocksFor n)) bs (s .frames) h p → FrameReply rec udi m (c .room) (h ∷ p) o
             → Replied prog id secret i (record { call = c; out = o })
         at-place h p a (within v z) =
-            let q = same-size (v .id) id (v .ep) firmware (v .n) 128 (sym (v .header) ∙ ap headerAt (a .header) ∙ one-header) in
+            let q = same-size (v .id) id (v .ep) firmware (v .n) 128 (sym (v .header) ∙ ap headerAt (a .header) ∙ made.frame-header prog id secret makes) in
             record { silent = λ d. z; taken = λ d. absurd (omega (arith, a .so-far, v .short)) }
         at-place h p a (passed v z) = never (sym (ap (λ (x : ℕ). forFirmware (x ∷ p)) (a .header) ∙ made.is-own prog id secret makes) ∙ v)
         at-place h p a (answers g r) =
-            let q = same-size (g .id) id (g .ep) firmware (g .n) 128 (sym (g .header) ∙ ap headerAt (a .header) ∙ one-header) in
+            let q = same-size (g .id) id (g .ep) firmware (g .n) 128 (sym (g .header) ∙ ap headerAt (a .header) ∙ made.frame-header prog id secret makes) in
             let w : suc (length p) ≡ 1 + g .n = g .whole in
             let l : length p ≡ 128 = omega arith in
             let k = length (s .frames) in

@@ -24,7 +24,7 @@ pub All-append : (P : List ℕ → Type 0) (fs gs : List (List ℕ)) → All P f
 All-append P [] gs a b = b
 All-append P (f ∷ fs) gs a b = (a .0, All-append P fs gs (a .1) b)
 
-pub flatten-append : (fs gs : List (List ℕ)) → flatten (fs ++ gs) ≡ flatten fs ++ flatten gs
+flatten-append : (fs gs : List (List ℕ)) → flatten (fs ++ gs) ≡ flatten fs ++ flatten gs
 unfolding flatten
 flatten-append [] gs = refl
 flatten-append (f ∷ fs) gs = ap (λ (r : List ℕ). f ++ r) (flatten-append fs gs) ∙ sym (append-assoc f (flatten fs) (flatten gs))
@@ -53,7 +53,7 @@ own-same fs f e = own-append fs (f ∷ []) ∙ ap (λ (x : Bool). own fs ++ cond
 pub same-size : (id id′ ep ep′ n n′ : ℕ) → good id ep n ≡ good id′ ep′ n′ → n ≡ n′
 same-size id id′ ep ep′ n n′ e = cc
 
-pub good-lengths : (h : ℕ) (p q : List ℕ) → Good (h ∷ p) → Good (h ∷ q) → length p ≡ length q
+good-lengths : (h : ℕ) (p q : List ℕ) → Good (h ∷ p) → Good (h ∷ q) → length p ≡ length q
 good-lengths h p q a b =
     let e = same-size (a .id) (b .id) (a .ep) (b .ep) (a .n) (b .n) (sym (a .header) ∙ b .header) in
     let x : suc (length p) ≡ 1 + a .n = a .whole in
@@ -61,7 +61,7 @@ good-lengths h p q a b =
     omega arith
 
 -- a good frame is not empty
-good-some : Good [] → ⊥
+pub good-some : Good [] → ⊥
 good-some g = let e : 0 ≡ 1 + g .n = g .whole in omega arith
 
 -- ---- one reading

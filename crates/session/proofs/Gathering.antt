@@ -55,7 +55,7 @@ set-next [] (y ∷ z) b l = refl
 set-next (x ∷ p) [] b l = absurd (omega arith)
 set-next (x ∷ p) (y ∷ z) b l = ap (λ (r : List ℕ). x ∷ r) (set-next p z b (omega arith))
 
-pub bad-is : (h : ℕ) (k : ℕ) → headerAt h ≡ stop k → headerAt h ≡ stop 22
+bad-is : (h : ℕ) (k : ℕ) → headerAt h ≡ stop k → headerAt h ≡ stop 22
 bad-is h k =
     by-bits h (λ (r : Reading). r ≡ stop k → r ≡ stop 22) (λ p q e. impossible cc) (λ g e. refl)
 

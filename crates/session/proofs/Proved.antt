@@ -30,7 +30,7 @@ use Rattle.session.specs.Reading.{Good, own, digestOf, Allowed, chained,
 use Rattle.session.specs.Session.{Entry, Among, isAccepted, receivedBytes, Session, allOf, acceptedOf, hasEnded, refusalIn}
 use Rattle.session.specs.Client.{frames, Made}
 use Rattle.session.specs.Boot.{StartedAt, Started, Reads, used, Start, stringAt, Gives, Same, StartOf, VerifiedBoot}
-use Rattle.session.proofs.Frames.{reads-on}
+use Rattle.session.proofs.Frames.{reads-on, good-some}
 use Rattle.session.proofs.Shapes.{one-shape}
 use Rattle.session.proofs.Acting.{is-waiting, Leaves}
 use Rattle.session.proofs.Calls.{Live}
@@ -69,7 +69,7 @@ last-same (x ∷ xs) (y ∷ ys) a b e = last-same xs ys a b (tail-eq-of-cons-eq 
 no-frames : (hs : List (List ℕ)) → All Good hs → [] ≡ flatten hs → hs ≡ []
 unfolding flatten
 no-frames [] a e = refl
-no-frames ([] ∷ hs) a e = absurd (let l : 0 ≡ 1 + a .0 .n = a .0 .whole in omega arith)
+no-frames ([] ∷ hs) a e = absurd (good-some (a .0))
 no-frames ((h ∷ f) ∷ hs) a e = impossible cc
 
 module _ (rec : List ℕ) (m : ℕ) (received : List ℕ) (w w′ : Starting rec m received) where

@@ -120,7 +120,7 @@ module _ (m : ℕ) where
 
 -- ---- the bytes that blocks carry
 
-pub carried-append : (bs cs : List (List ℕ)) → carried (bs ++ cs) ≡ carried bs ++ carried cs
+carried-append : (bs cs : List (List ℕ)) → carried (bs ++ cs) ≡ carried bs ++ carried cs
 carried-append [] cs = refl
 carried-append (f ∷ bs) cs = ap (λ (r : List ℕ). carriedBy f ++ r) (carried-append bs cs) ∙ sym (append-assoc (carriedBy f) (carried bs) (carried cs))
 

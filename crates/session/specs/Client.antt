@@ -6,13 +6,13 @@ use mathlib.Core.Logic.{_↔_, _⊎_}
 use mathlib.Core.Bool.{true, false, cond}
 use mathlib.Core.List.{List, [], _∷_, _++_, flatten}
 use lib.Dec.{eqb}
-use lib.ListN.{length, getD, take, drop, replicate}
+use lib.ListN.{length, getD, take, drop}
 use Rattle.rfc7693.specs.Rfc7693.{blake2s}
 use Rattle.endian.specs.Endian.{bytes}
 use Rattle.cdi.specs.Cdi.{cdiString}
 use Rattle.framing.specs.Header.{good, headerAt}
 use Rattle.protocol.specs.Commands.{firmware, loadIn, carriedBy, blocksFor, placeOf}
-use Rattle.endian.specs.Lists.{padded, Bytes, Words}
+use Rattle.endian.specs.Lists.{padded, Bytes, Words, zeros}
 use Rattle.protocol.specs.Theorems.{loadWith}
 use Rattle.record.specs.Record.{typeField, numberIn}
 use Rattle.head.specs.Answers.{started}
@@ -51,8 +51,8 @@ module _ (program : List ℕ) (id : ℕ) (secret : Secret) where
   pub record ProgramLoad (f : List ℕ) : Type 0 where
     pub header : headerAt (getD f 0 0) ≡ good id firmware 128
     pub load : LoadFrame f
-    pub says : loadIn f ≡ loadWith (length program) (cond (secret .used) 1 0) (cond (secret .used) (secret .uss) (replicate 32 0))
-    pub ignored : drop 39 f ≡ replicate 90 0
+    pub says : loadIn f ≡ loadWith (length program) (cond (secret .used) 1 0) (cond (secret .used) (secret .uss) (zeros 32))
+    pub ignored : drop 39 f ≡ zeros 90
 
   -- its block k: it carries the program from the block's place on, filled up with zeros
   pub record ProgramBlock (k : ℕ) (f : List ℕ) : Type 0 where
@@ -79,7 +79,7 @@ module _ (program : List ℕ) (id : ℕ) (secret : Secret) where
 
   -- the digest that the reply to frame k gives: the program's with the last one, and otherwise none, which is zeros
   abbrev pub digestAt : ℕ → List ℕ
-  digestAt k = cond (eqb k (blocksFor (length program))) programDigest (replicate 32 0)
+  digestAt k = cond (eqb k (blocksFor (length program))) programDigest (zeros 32)
 
   -- what a call leaves in its room, where it is call i from 0, and so received byte i % 129 of frame i / 129
   pub record Replied (i : ℕ) (e : Entry) : Type 0 where

@@ -1,10 +1,10 @@
-// Numbers and states as bytes: a state has 250.
+// Numbers and states as bytes: a state has 254.
 use libc::STDOUT_FILENO;
-use head::Config;
-use head::Incoming;
-use head::Phase;
-use head::Progress;
-use head::State;
+use loader::Config;
+use loader::Incoming;
+use loader::Phase;
+use loader::Progress;
+use loader::State;
 ghost use Prim.Native.Nat.{_+_, _≤_};
 
 // The word at a place.
@@ -12,6 +12,13 @@ pub fn word(c: [u8; 320], at: usize) -> u32
     requires { ⌜ at + 4 ≤ 320 ⌝ }
 {
     endian::word(c[at], c[at + 1], c[at + 2], c[at + 3])
+}
+
+// The length at a place: eight bytes.
+pub fn length(c: [u8; 320], at: usize) -> usize
+    requires { ⌜ at + 8 ≤ 320 ⌝ }
+{
+    word(c, at) as usize + word(c, at + 4) as usize * 4294967296
 }
 
 // The 32 bytes at a place.
@@ -44,7 +51,7 @@ fn body(c: [u8; 320]) -> [u8; 128] {
     p
 }
 
-// A call's state: its bytes 44 to 293.
+// A call's state: its bytes 44 to 297.
 pub fn state(c: [u8; 320]) -> State {
     State {
         incoming: Incoming {
@@ -59,22 +66,22 @@ pub fn state(c: [u8; 320]) -> State {
 
 fn config(c: [u8; 320]) -> Config {
     Config {
-        ram_len: word(c, 174) as usize,
-        verify: c[178] != 0,
-        required: part(c, 179),
-        chained: c[211] != 0,
-        measured_id: part(c, 212),
-        udi: udi(c, 244),
+        ram_len: length(c, 174),
+        verify: c[182] != 0,
+        required: part(c, 183),
+        chained: c[215] != 0,
+        measured_id: part(c, 216),
+        udi: udi(c, 248),
     }
 }
 
 fn progress(c: [u8; 320]) -> Progress {
     Progress {
-        phase: phase(c[252]),
-        size: word(c, 253),
-        block: word(c, 257),
-        uss_used: c[261] != 0,
-        uss: part(c, 262),
+        phase: phase(c[256]),
+        size: word(c, 257),
+        block: word(c, 261),
+        uss_used: c[265] != 0,
+        uss: part(c, 266),
     }
 }
 
@@ -110,6 +117,7 @@ pub fn write_word(n: u32) {
 
 pub fn write_length(n: usize) {
     write_word((n % 4294967296) as u32);
+    write_word((n / 4294967296) as u32);
 }
 
 pub fn write_bool(b: bool) {
@@ -144,14 +152,14 @@ fn write_config(c: Config) {
 fn write_progress(p: Progress) {
     let uss = p.uss;
     let phase = p.phase;
-    write_byte(number(phase));
+    write_byte(phase_number(phase));
     write_word(p.size);
     write_word(p.block);
     write_bool(p.uss_used);
     write(&uss);
 }
 
-fn number(phase: Phase) -> u8 {
+fn phase_number(phase: Phase) -> u8 {
     match phase {
         Phase::Waiting => 0,
         Phase::Loading => 1,

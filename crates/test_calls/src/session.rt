@@ -1,8 +1,8 @@
 // Begin and receive.
 use super::image;
-use head::Answer;
-use head::Received;
-use head::State;
+use loader::Answer;
+use loader::Received;
+use loader::State;
 
 ghost use Prim.Native.Nat.{_≤_};
 
@@ -38,12 +38,12 @@ pub fn length(low: u8, high: u8, most: usize) -> usize
     if n <= most { n } else { most }
 }
 
-// Bytes 4 and 5 say how many bytes of the record are lent, which stands from byte 8 on; 268 to 271 are the RAM's length, 272 to 279 the
+// Bytes 4 and 5 say how many bytes of the record are lent, which stands from byte 8 on; 268 to 275 are the RAM's length, 276 to 283 the
 // UDI.
 fn begin(k: Kept, c: [u8; 320]) -> Kept {
     let n = length(c[4], c[5], 257);
-    let udi = image::udi(c, 272);
-    let ram_len = image::word(c, 268) as usize;
+    let udi = image::udi(c, 276);
+    let ram_len = image::length(c, 268);
     let b = loader::begin(image::first(&c[8..], n), udi, ram_len);
     let answer = b.answer;
     let state = b.state;
@@ -126,8 +126,8 @@ fn write_received(r: Received) {
 fn write_answer(a: Answer) {
     match a {
         Answer::Continue => write_numbers(b'W', 0, 0),
-        Answer::Refused(why) => write_numbers(b'X', head::refusal_number(why) as u32, 0),
-        Answer::Stopped(why) => write_numbers(b'F', head::stop_number(why) as u32, 0),
+        Answer::Refused(why) => write_numbers(b'X', loader::refusal_number(why) as u32, 0),
+        Answer::Stopped(why) => write_numbers(b'F', loader::stop_number(why) as u32, 0),
         Answer::Started { address, size } => write_numbers(b'S', size, address),
     }
 }

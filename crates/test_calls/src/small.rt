@@ -25,8 +25,7 @@ fn read_header(b: u8) {
 
 // Bytes 1 and 2 are ID and endpoint, 4 to 11 the length: the header, or 255 where it is refused, which no header is.
 fn write_header(c: [u8; 320]) {
-    let len = image::word(c, 4) as usize + image::word(c, 8) as usize * 4294967296;
-    match framing::write_header(c[1], c[2], len) {
+    match framing::write_header(c[1], c[2], image::length(c, 4)) {
         Written::Byte(b) => image::write_byte(b),
         Written::Refused => image::write_byte(255),
     }
