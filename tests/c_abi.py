@@ -116,9 +116,9 @@ def run(every):
 def main():
     build()
     known = list(published())
-    for (key, msg, size, digest), line in zip(known, run([(k, m, len(m), s) for k, m, s, _ in known])):
-        if line != f"0 {digest}aaaaaaaa":
-            print(f"published: key {len(key)} message {msg}: got {line}, expected {digest}")
+    for (key, msg, _, wanted), line in zip(known, run([(k, m, len(m), s) for k, m, s, _ in known])):
+        if line != f"0 {wanted}aaaaaaaa":
+            print(f"published: key {len(key)} message {msg}: got {line}, expected {wanted}")
             return 1
     if not selftest(run):
         print("the self-test of RFC 7693, appendix E, fails")

@@ -109,7 +109,7 @@ refused-is key nn h = rw (ne-eqb (beginNumber (length key) nn) 0 h)
 pub streaming : Streaming
 unfolding updateNumber updateContext finishNumber inRange refusedContext
 streaming = record {
-      answers = same-number;
+  answers = same-number;
   streamed = λ key nn parts a. all-streamed key nn a parts;
   both = λ c s e. (both-to-one c s e, one-to-both c s e);
   composed = compose;

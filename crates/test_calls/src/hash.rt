@@ -1,9 +1,8 @@
 // A hash in parts.
-use super::session;
 use super::image;
+use super::session;
 use blake2s::Answer;
 use blake2s::Context;
-
 ghost use Prim.Native.Nat.{_≤_};
 
 // No context: every call refuses it.

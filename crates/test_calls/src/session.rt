@@ -3,7 +3,6 @@ use super::image;
 use loader::Answer;
 use loader::Received;
 use loader::State;
-
 ghost use Prim.Native.Nat.{_≤_};
 
 // What one call leaves for the next.
