@@ -6,6 +6,7 @@ import time
 SIZES = [1024 << k for k in range(8)]
 ROUNDS = 3  # of which the best counts; the two programs take turns
 LEAST = 0.5  # seconds
+MOST = 4.0  # at the largest size; it is 3.2
 
 
 def run(program, size, times):
@@ -44,6 +45,9 @@ def main(proved, peer):
         first = load if size == SIZES[0] else first
         print(f"{size:>8} {ours:>15.2f} {theirs:>10.2f} {ours / theirs:>11.2f} {load / first:>22.2f}")
     print(f"at {size} bytes: {1e9 / ours:,.0f} bytes received per second, {1e9 / theirs:,.0f} by the C head")
+    if ours / theirs > MOST:
+        print(f"over {MOST} times the time of the C head: most likely the state is copied once more (docs/PROVING.md)")
+        return 1
     return 0
 
 

@@ -66,11 +66,10 @@ fn process(s: State, byte: u8, room: &mut [u8], ram: &mut [u8], uds: &mut [u32])
 {
     let g = gathering::gather(s.incoming, byte);
     let step = g.step;
-    let next = with_incoming(s, g.incoming);
     match step {
-        Step::More => acting::plain(Answer::Continue, 0, next),
-        Step::Bad => acting::stop(Stop::HeaderBit, next),
-        Step::Whole => acting::act(next, room, ram, uds),
+        Step::More => acting::plain(Answer::Continue, 0, with_incoming(s, g.incoming)),
+        Step::Bad => acting::stop(Stop::HeaderBit, s),
+        Step::Whole => acting::act(with_incoming(s, g.incoming), room, ram, uds),
     }
 }
 

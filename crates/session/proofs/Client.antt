@@ -11,7 +11,7 @@ use lib.ListN.{length, getD, take, replicate, length-append, length-drop}
 use lib.Seq.{take-at}
 use borrow.Author.Tests.{eqb-true, eqb-false, eq-eqb, ne-eqb}
 use Rattle.endian.proofs.Cases.{impossible}
-use Rattle.framing.specs.Header.{good, headerAt}
+use Rattle.framing.specs.Header.{headerAt}
 use Rattle.rfc7693.specs.Rfc7693.{blake2s}
 use Rattle.endian.specs.Endian.{bytes}
 use Rattle.cdi.specs.Cdi.{cdiString}
