@@ -97,9 +97,11 @@ class Calls:
         return None if done.returncode == 0 else f"exit status {done.returncode}"
 
     def difference(self, got):
+        at = 0
         for what, fields in self.wanted:
             for name, want in fields:
-                part, got = got[: len(want)], got[len(want) :]
+                part = got[at : at + len(want)]
+                at += len(want)
                 if part != want:
                     return f"{what}: {name}\n  got      {part.hex()}\n  expected {want.hex()}"
-        return f"{len(got)} bytes too many" if got else None
+        return f"{len(got) - at} bytes too many" if len(got) > at else None

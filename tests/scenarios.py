@@ -27,7 +27,7 @@ REQUIRED = b"\xc3" * 32
 MEASURED_ID = b"\x3c" * 32
 PROGRAM = bytes((7 * i + 3) % 256 for i in range(3 * 127))
 COUNTING = bytes(range(0xA0, 0xC0))
-RANDOM_CALLS = 6000
+RANDOM_CALLS = 40000
 
 
 def waiting(**changes):
