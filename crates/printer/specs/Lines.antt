@@ -37,7 +37,7 @@ decimalOf n = decimalIn 20 n
 abbrev pub replyLine : List ℕ → List ℕ
 replyLine reply = ascii "R " ++ hexOf reply ++ ascii "\n"
 
--- `W `, how many bytes were received
+-- `W `, how many bytes were received (document 01: heard)
 abbrev pub waitingLine : ℕ → List ℕ
 waitingLine n = ascii "W " ++ decimalOf n ++ ascii "\n"
 

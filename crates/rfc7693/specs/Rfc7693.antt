@@ -46,7 +46,8 @@ shl x n = x * 2 ^ n % 2 ^ w
 unfoldable pub rotr : ℕ → ℕ → ℕ
 rotr x n = bitXor (shr x n) (shl x (w - n))
 
--- 2.4: the sixteen words m[0..15] of a block of bytes
+-- 2.4: the sixteen words m[0..15] of a block of bytes. A word as four bytes, and the 32 bytes of the words h[0..7], are `word` and `bytes` of
+-- `endian`
 unfoldable pub words : List ℕ → List ℕ
 words x = each 16 (λ i. word x (4 * i))
 
