@@ -1,1 +1,2 @@
 pub mod Upload
+pub mod Messages

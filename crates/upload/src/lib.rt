@@ -1,5 +1,6 @@
 // The laptop's half of a load, event by event: what `./load` does next, and what it says. Nothing here reads or writes; the program `load`
 // does. What is sent and what is taken is `client`'s; in specs/, Upload says when, Messages in which words.
+mod messages;
 mod steps;
 
 ghost use mathlib.Core.Path.{_≡_};

@@ -1,0 +1,190 @@
+// The words of a failure, of a load and of what is done of one.
+ghost use mathlib.Core.Path.{_≡_};
+ghost use Rattle.text.specs.Text.{hexOf, added, textOf};
+ghost use Rattle.protocol.specs.Commands.{blocksFor};
+ghost use Rattle.upload.specs.Upload.{cameOf};
+ghost use Rattle.upload.specs.Messages.{blockName, frameName, secondsOf, cameName, noAnswer, lineClosed, differenceName, unexpected, refused, otherDigest, lengthWords, messageOf, loadedLine};
+use super::Exchange;
+use super::Failure;
+use super::Job;
+use super::steps;
+use client::Difference;
+use text::Text;
+
+// How many blocks a program has.
+fn blocks(len: usize) -> usize
+    ensures { λ r. ⌜ r ≡ blocksFor len ⌝ }
+{
+    if len % 127 == 0 {
+        return len / 127;
+    }
+    len / 127 + 1
+}
+
+// ---- parts of a message
+
+fn put_block(t: Text, k: u32, n: usize) -> Text
+    ensures { λ r. ⌜ r ≡ added t (blockName k n) ⌝ }
+{
+    let a = text::put_all(t, b"block ");
+    let b = text::put_decimal(a, k as u64);
+    let c = text::put_all(b, b" of ");
+    text::put_decimal(c, n as u64)
+}
+
+fn put_frame(t: Text, job: Job, k: u32) -> Text
+    ensures { λ r. ⌜ r ≡ added t (frameName job k) ⌝ }
+{
+    let a = text::put_all(t, b"frame ");
+    let b = text::put_decimal(a, k as u64);
+    if k == 0 {
+        return text::put_all(b, b" (the load)");
+    }
+    let c = text::put_all(b, b" (");
+    let d = put_block(c, k, blocks(job.len));
+    text::put_all(d, b")")
+}
+
+fn put_seconds(t: Text, ticks: u32) -> Text
+    ensures { λ r. ⌜ r ≡ added t (secondsOf ticks) ⌝ }
+{
+    let a = text::put_decimal(t, (ticks / 10) as u64);
+    if ticks % 10 == 0 {
+        return text::put_all(a, b" s");
+    }
+    let b = text::put_all(a, b".");
+    let c = text::put_decimal(b, (ticks % 10) as u64);
+    text::put_all(c, b" s")
+}
+
+// What has come of a reply.
+fn put_reply(t: Text, x: Exchange) -> Text
+    ensures { λ r. ⌜ r ≡ added t (hexOf (cameOf x)) ⌝ }
+{
+    let n = steps::came(x.got);
+    let reply = x.reply;
+    text::put_hex(t, &reply[..n])
+}
+
+fn put_came(t: Text, x: Exchange) -> Text
+    ensures { λ r. ⌜ r ≡ added t (cameName x) ⌝ }
+{
+    if x.got == 0 {
+        return text::put_all(t, b"no answer");
+    }
+    let a = text::put_all(t, b"only ");
+    let b = put_reply(a, x);
+    text::put_all(b, b" came in answer")
+}
+
+fn put_difference(t: Text, d: Difference) -> Text
+    ensures { λ r. ⌜ r ≡ added t (differenceName d) ⌝ }
+{
+    match d {
+        Difference::Nothing => text::put_all(t, b"length"),
+        Difference::Header => text::put_all(t, b"header"),
+        Difference::Length => text::put_all(t, b"length"),
+        Difference::Code => text::put_all(t, b"code"),
+        Difference::Status => text::put_all(t, b"status"),
+        Difference::Filler => text::put_all(t, b"filler"),
+    }
+}
+
+// ---- messages
+
+fn no_answer(t: Text, job: Job, x: Exchange) -> Text
+    ensures { λ r. ⌜ r ≡ added t (noAnswer job x) ⌝ }
+{
+    let a = put_came(t, x);
+    let b = text::put_all(a, b" to ");
+    let c = put_frame(b, job, x.k);
+    let d = text::put_all(c, b" in ");
+    let e = put_seconds(d, job.wait);
+    text::put_all(e, b"; is the head waiting for a program? has it stopped?")
+}
+
+fn line_closed(t: Text, job: Job, x: Exchange) -> Text
+    ensures { λ r. ⌜ r ≡ added t (lineClosed job x) ⌝ }
+{
+    let a = text::put_all(t, b"the line closed before the reply to ");
+    let b = put_frame(a, job, x.k);
+    text::put_all(b, b" was whole; is the cable plugged in? has the head power?")
+}
+
+fn unexpected_reply(t: Text, job: Job, x: Exchange) -> Text
+    ensures { λ r. ⌜ r ≡ added t (unexpected job x) ⌝ }
+{
+    let a = text::put_all(t, b"the reply to ");
+    let b = put_frame(a, job, x.k);
+    let c = text::put_all(b, b" is not the expected one (43), its ");
+    let d = put_difference(c, steps::difference(job, x));
+    let e = text::put_all(d, b" differs: ");
+    let f = put_reply(e, x);
+    text::put_all(f, b"; reset the head and load again")
+}
+
+fn refused_frame(t: Text, job: Job, x: Exchange) -> Text
+    ensures { λ r. ⌜ r ≡ added t (refused job x) ⌝ }
+{
+    if x.k == 0 {
+        return text::put_all(
+            t,
+            b"the program does not fit this head's RAM (status 1); load a smaller one",
+        );
+    }
+    let a = text::put_all(t, b"the head refused ");
+    let b = put_frame(a, job, x.k);
+    text::put_all(b, b" (status 1); reset the head and load again")
+}
+
+fn other_digest(t: Text, job: Job, x: Exchange) -> Text
+    ensures { λ r. ⌜ r ≡ added t (otherDigest job x) ⌝ }
+{
+    let a = text::put_all(t, b"the head measured another digest, ");
+    let taken = steps::read(job, x);
+    let theirs = taken.digest;
+    let b = text::put_hex(a, &theirs);
+    text::put_all(
+        b,
+        b"; it has not this program, and if it is of type 4 it has started another: reset the head and load again",
+    )
+}
+
+fn program_length(t: Text, job: Job) -> Text
+    ensures { λ r. ⌜ r ≡ added t (lengthWords job) ⌝ }
+{
+    if job.len == 0 {
+        return text::put_all(t, b"has no byte; a program has 1 to 131072");
+    }
+    text::put_all(t, b"is too long; a program has 1 to 131072 bytes")
+}
+
+// The words of a failure.
+pub fn message(job: Job, x: Exchange, f: Failure) -> Text
+    ensures { λ r. ⌜ r ≡ textOf (messageOf job x f) ⌝ }
+{
+    let t = text::empty();
+    match f {
+        Failure::Arguments => text::put_all(t, b"bad arguments; see ./load --help"),
+        Failure::Unreadable => text::put_all(t, b"cannot be read"),
+        Failure::ProgramLength => program_length(t, job),
+        Failure::SecretLength => text::put_all(t, b"a user secret has exactly 32 bytes"),
+        Failure::Device => text::put_all(t, b"cannot be opened as a serial line"),
+        Failure::NoAnswer => no_answer(t, job, x),
+        Failure::LineClosed => line_closed(t, job, x),
+        Failure::UnexpectedReply => unexpected_reply(t, job, x),
+        Failure::Refused => refused_frame(t, job, x),
+        Failure::OtherDigest => other_digest(t, job, x),
+    }
+}
+
+// The line of a load.
+pub fn loaded(job: Job) -> Text
+    ensures { λ r. ⌜ r ≡ textOf (loadedLine job) ⌝ }
+{
+    let a = text::put_all(text::empty(), b"loaded ");
+    let b = text::put_decimal(a, job.len as u64);
+    let c = text::put_all(b, b" bytes, digest ");
+    let ours = job.digest;
+    text::put_hex(c, &ours)
+}
