@@ -89,3 +89,25 @@ messageOf job x OtherDigest = otherDigest job x
 
 abbrev pub loadedLine : Job → List ℕ
 loadedLine job = ascii "loaded " ++ decimalOf (job .len) ++ ascii " bytes, digest " ++ hexOf (job .digest)
+
+-- ---- the line that is rewritten meanwhile
+
+-- 32 places, so many of them filled
+abbrev pub barOf : ℕ → List ℕ
+barOf filled = replicate filled 35 ++ replicate (32 - filled) 46
+
+abbrev pub countOf : ℕ → ℕ → List ℕ
+countOf done n = decimalOf done ++ ascii " of " ++ decimalOf n ++ ascii " blocks, " ++ decimalOf (100 * done / n) ++ ascii "%"
+
+-- nothing before a second has passed
+abbrev pub rateOf : ℕ → ℕ → List ℕ
+rateOf bytes seconds = cond (eqb seconds 0) [] (ascii ", " ++ decimalOf (bytes / seconds) ++ ascii " bytes/s")
+
+-- `done` blocks of a program of n bytes; the line goes back to its beginning (13) and clears what stands behind it (27, `[K`)
+abbrev pub lineAt : ℕ → ℕ → ℕ → List ℕ
+lineAt n done seconds =
+    13 ∷ ascii "[" ++ barOf (32 * done / blocksFor n) ++ ascii "] " ++ countOf done (blocksFor n) ++ rateOf (min n (placeOf done)) seconds
+    ++ 27 ∷ ascii "[K"
+
+unfoldable pub progressLine : ℕ → ℕ → ℕ → List ℕ
+progressLine n done seconds = cond (lengthOk n) (lineAt n (min done (blocksFor n)) seconds) []

@@ -1,9 +1,10 @@
 // The words of a failure, of a load and of what is done of one.
 ghost use mathlib.Core.Path.{_≡_};
+ghost use Prim.Native.Nat.{_<_, _≤_, min};
 ghost use Rattle.text.specs.Text.{hexOf, added, textOf};
 ghost use Rattle.protocol.specs.Commands.{blocksFor};
 ghost use Rattle.upload.specs.Upload.{cameOf};
-ghost use Rattle.upload.specs.Messages.{blockName, frameName, secondsOf, cameName, noAnswer, lineClosed, differenceName, unexpected, refused, otherDigest, lengthWords, messageOf, loadedLine};
+ghost use Rattle.upload.specs.Messages.{blockName, frameName, secondsOf, cameName, noAnswer, lineClosed, differenceName, unexpected, refused, otherDigest, lengthWords, messageOf, loadedLine, barOf, countOf, rateOf, lineAt, progressLine};
 use super::Exchange;
 use super::Failure;
 use super::Job;
@@ -108,7 +109,10 @@ fn line_closed(t: Text, job: Job, x: Exchange) -> Text
 {
     let a = text::put_all(t, b"the line closed before the reply to ");
     let b = put_frame(a, job, x.k);
-    text::put_all(b, b" was whole; is the cable plugged in? has the head power?")
+    text::put_all(
+        b,
+        b" was whole; is the cable plugged in? has the head power?",
+    )
 }
 
 fn unexpected_reply(t: Text, job: Job, x: Exchange) -> Text
@@ -187,4 +191,70 @@ pub fn loaded(job: Job) -> Text
     let c = text::put_all(b, b" bytes, digest ");
     let ours = job.digest;
     text::put_hex(c, &ours)
+}
+
+// ---- progress
+
+fn least(a: usize, b: usize) -> usize
+    ensures { λ r. ⌜ r ≡ min a b ⌝ }
+{
+    if a < b { a } else { b }
+}
+
+// A bar of 32 places.
+fn put_bar(t: Text, filled: usize) -> Text
+    ensures { λ r. ⌜ r ≡ added t (barOf filled) ⌝ }
+{
+    let a = text::put_repeated(t, b'#', filled);
+    text::put_repeated(a, b'.', 32 - least(filled, 32))
+}
+
+// So many of the blocks, and how many in a hundred.
+fn put_count(t: Text, done: usize, n: usize) -> Text
+    requires { ⌜ (done ≤ n) × (0 < n) × (n ≤ 1033) ⌝ }
+    ensures { λ r. ⌜ r ≡ added t (countOf done n) ⌝ }
+{
+    let a = text::put_decimal(t, done as u64);
+    let b = text::put_all(a, b" of ");
+    let c = text::put_decimal(b, n as u64);
+    let d = text::put_all(c, b" blocks, ");
+    let e = text::put_decimal(d, (100 * done / n) as u64);
+    text::put_all(e, b"%")
+}
+
+// The bytes a second; nothing before a second has passed.
+fn put_rate(t: Text, bytes: usize, seconds: u64) -> Text
+    ensures { λ r. ⌜ r ≡ added t (rateOf bytes seconds) ⌝ }
+{
+    if seconds == 0 {
+        return t;
+    }
+    let a = text::put_all(t, b", ");
+    let b = text::put_decimal(a, bytes as u64 / seconds);
+    text::put_all(b, b" bytes/s")
+}
+
+// Bar, count and rate of a program of n blocks, of which so many are done.
+fn put_line(t: Text, len: usize, n: usize, done: usize, seconds: u64) -> Text
+    requires { ⌜ (n ≡ blocksFor len) × (done ≤ n) × (0 < n) × (n ≤ 1033) ⌝ }
+    ensures { λ r. ⌜ r ≡ added t (lineAt len done seconds) ⌝ }
+{
+    let a = text::put_all(t, b"\r[");
+    let b = put_bar(a, 32 * done / n);
+    let c = text::put_all(b, b"] ");
+    let d = put_count(c, done, n);
+    let e = put_rate(d, least(len, 127 * done), seconds);
+    text::put_all(e, b"\x1b[K")
+}
+
+// The line that is rewritten while a program is loaded: so many blocks are done, in so many seconds.
+pub fn progress(len: usize, done: u32, seconds: u64) -> Text
+    ensures { λ r. ⌜ r ≡ textOf (progressLine len done seconds) ⌝ }
+{
+    let t = text::empty();
+    if !protocol::length_ok(len) {
+        return t;
+    }
+    let n = blocks(len);
+    put_line(t, len, n, least(done as usize, n), seconds)
 }

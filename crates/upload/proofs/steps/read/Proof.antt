@@ -1,10 +1,7 @@
 -- There are 129 bytes.
-use mathlib.Core.Path.{_≡_, ap, sym, _∙_}
-use mathlib.Core.List.{List}
-use Prim.Native.Nat.{ℕ}
+use mathlib.Core.Path.{_≡_}
 use native.Mathlib.Omega.{arith}
 use lib.ListN.{length, take, length-take}
-use Rattle.client.specs.Replies.{taking}
 use borrow.Author.Needs.{needs}
 use Rattle.upload.proofs.steps.read.Statement.{statement}
 use Rattle.upload.proofs.steps.read.Tie as tie
