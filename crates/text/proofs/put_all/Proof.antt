@@ -1,0 +1,47 @@
+-- What is left, behind what is there, is the whole.
+use Prim.Native.Nat.{ℕ, _+_, _-_, _≤_}
+use native.Mathlib.Omega.{arith}
+use mathlib.Core.Path.{_≡_, refl, sym, _∙_}
+use lib.ListN.{length, drop}
+use lib.Seq.{drop-length}
+use Rattle.text.specs.Text.{added}
+use Rattle.text.proofs.Texts.{next}
+use borrow.Author.Needs.{needs}
+use Rattle.text.proofs.put_all.Statement.{statement}
+use Rattle.text.proofs.put_all.Tie as tie
+
+abbrev Inv-loop : tie.InvT-loop
+Inv-loop s text₀ i₀ text i = (i ≤ length s) × (added text (drop i s) ≡ added text₀ s)
+
+abbrev μ-loop : tie.MeasureT-loop
+μ-loop s text₀ i₀ text i = length s - i
+
+loop-holds : tie.Need-loop-holds Inv-loop μ-loop
+loop-holds c = (search needs, refl)
+
+loop-again : tie.Need-loop-again Inv-loop μ-loop
+loop-again c =
+    let p = c .before .before .before .loop in
+    let s = c .before .before .before .before .before .args .s .now in
+    (omega arith, rw (c .put .ensures) (next (p .text) s (p .i) (search needs) ∙ p .inv .1))
+
+returns : tie.Need-returns Inv-loop μ-loop
+returns c =
+    let p = c .before .loop in
+    let s = c .before .before .before .args .s .now in
+    let e : p .i ≡ length s = omega arith in
+    rw (e, drop-length) at (p .inv .1)
+
+pub put-all-spec : {M : Type 1} → statement M
+put-all-spec =
+    tie.close
+    (tie.spec
+    Inv-loop
+    μ-loop
+    loop-holds
+    (λ c. search needs)
+    (λ c κs. search needs)
+    (λ c. search needs)
+    (λ c. search needs)
+    loop-again
+    returns)
