@@ -1,6 +1,6 @@
 #!/usr/bin/env bash
-# Measures the client's two calls, in one run against the same calls as ordinary C at gcc -O3 (bench/server.c), and prints times and
-# their ratios (below 1: the proved code is quicker). Needs gcc.
+# Measures the client's make_frame and read_reply, in one run against the same calls as ordinary C at gcc -O3 (bench/server.c), and
+# prints times and their ratios (below 1: the proved code is quicker). Needs gcc.
 set -eu
 cd "$(dirname "$0")/.."
 rt staticlib client >/dev/null

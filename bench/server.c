@@ -1,4 +1,4 @@
-/* The client's two calls as a C programmer would write them, for bench/client.c: the same tests and the same bytes. */
+/* The client's make_frame and read_reply as a C programmer would write them, for bench/client.c: the same tests and the same bytes. */
 #include <string.h>
 
 #include "mastfrap.h"

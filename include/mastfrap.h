@@ -3,8 +3,9 @@
  * (RFC 7693) as proved in crates/blake2s, and the server's half of a load as proved in crates/client.
  *
  * `rt staticlib blake2s` writes target/staticlib/libblake2s.a, which has mastfrap_blake2s.
- * `rt staticlib client` writes target/staticlib/libclient.a, which has mastfrap_make_frame and
- * mastfrap_read_reply. Link the one whose calls you use, or both: they have no symbol in common.
+ * `rt staticlib client` writes target/staticlib/libclient.a, which has mastfrap_make_frame,
+ * mastfrap_read_reply and mastfrap_difference. Link the one whose calls you use, or both: they have
+ * no symbol in common.
  *
  * Each call answers 0, or the lowest number of its list that applies, and then has changed nothing.
  *
@@ -50,6 +51,15 @@ enum {
 };
 
 enum {
+    MASTFRAP_DIFFERENCE_NOTHING = 0,
+    MASTFRAP_DIFFERENCE_HEADER = 1, /* bit 7 or 2, frame ID, endpoint, length code; or reply_len is 0 */
+    MASTFRAP_DIFFERENCE_LENGTH = 2, /* reply_len is not that of the whole frame */
+    MASTFRAP_DIFFERENCE_CODE = 3,   /* the code is not the one that frame k asks for */
+    MASTFRAP_DIFFERENCE_STATUS = 4, /* the status is over 1 */
+    MASTFRAP_DIFFERENCE_FILLER = 5  /* a byte behind status and digest is not zero */
+};
+
+enum {
     MASTFRAP_PROGRAM_MOST = 131072, /* the longest program; a head with less RAM takes less */
     MASTFRAP_BLOCK_BYTES = 127,     /* how many bytes of the program a block carries */
     MASTFRAP_FRAME_BYTES = 129,     /* a command frame, and the longest reply */
@@ -92,6 +102,14 @@ uint32_t mastfrap_make_frame(const uint8_t *program, size_t program_len, uint8_t
 uint32_t mastfrap_read_reply(size_t program_len, uint8_t id, uint32_t k, const uint8_t *reply,
                              size_t reply_len, uint8_t *status,
                              uint8_t digest[MASTFRAP_DIGEST_BYTES]);
+
+/*
+ * Says in what the reply to command frame k of a program of program_len bytes differs from the one
+ * that mastfrap_read_reply takes: 0 exactly where that call takes it, or refuses program_len, id or
+ * k (40, 41, 42), since no reply is expected then. It writes nothing.
+ */
+uint32_t mastfrap_difference(size_t program_len, uint8_t id, uint32_t k, const uint8_t *reply,
+                             size_t reply_len);
 
 #ifdef __cplusplus
 }

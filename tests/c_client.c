@@ -8,7 +8,7 @@
  * M: frame ID, used, k (four bytes), the room's length (eight) and 32 bytes of secret.
  *    Prints the answer of mastfrap_make_frame, and the room.
  * R: program length (eight bytes), frame ID, k (four), the reply's length (eight) and the reply.
- *    Prints the answer of mastfrap_read_reply, and status and digest.
+ *    Prints the answers of mastfrap_difference and mastfrap_read_reply, and status and digest.
  *
  * What a call may write holds 0xaa before, with four bytes more on each side, and all is printed. What
  * it may only read cannot be written meanwhile, and ends where the next byte cannot be touched.
@@ -132,6 +132,7 @@ static void read_reply(void)
     take(&reply_len, sizeof reply_len);
     const uint8_t *reply = lent(&area, reply_len);
     uint32_t answer = mastfrap_read_reply(len, id, k, reply, reply_len, status, digest);
+    printf("%u ", (unsigned)mastfrap_difference(len, id, k, reply, reply_len));
     print(answer, 1 + SPARE + MASTFRAP_DIGEST_BYTES);
 }
 

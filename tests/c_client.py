@@ -32,10 +32,13 @@ YES = [1, 1, 2, 128, 254, 255]  # any number but 0 says that the secret is used
 HIGHEST = 2**32 - 1
 SIZES = [1, 127, 128, 254, 255, 1000, PRINTER_RAM]
 
+DIFFERENCES = ["nothing", "header", "length", "code", "status", "filler"]  # by their numbers
+
 # What must come up, so that agreement says something.
 KINDS = {
     "making": [f"answered {n}" for n in (0, 3, 40, 41, 42)],
     "reading": [f"answered {n}" for n in (0, 40, 41, 42, 43)],
+    "differing": [f"in {what}" for what in DIFFERENCES],
     "taken": ["with status 0", "with status 1", "with a digest"],
     "headlog": ["started", "had no RAM for it", "stopped with 25"],
 }
@@ -67,9 +70,9 @@ class Calls:
         self.program = program
         self.data.append(b"P" + struct.pack("=Q", length) + (program or b""))
 
-    def want(self, call, what, answer, *written):
+    def want(self, call, what, answers, *written):
         self.data.append(call)
-        self.wanted.append((what, f"{answer} {(SPARE + SPARE.join(written) + SPARE).hex()}"))
+        self.wanted.append((what, f"{answers} {(SPARE + SPARE.join(written) + SPARE).hex()}"))
 
     def hash(self):
         self.want(b"D", f"digest of {self.length} bytes", 0, blake2s(self.program))
@@ -86,11 +89,13 @@ class Calls:
         number, status, digest = server.read(length, id, k, reply)
         call = b"R" + struct.pack("=QBIQ", length, id, k, len(reply)) + reply
         what = f"program {length}, ID {id}, frame {k}, reply {reply.hex()}"
+        differs = server.difference(length, id, k, reply)
         self.seen["reading", f"answered {number}"] += 1
+        self.seen["differing", f"in {DIFFERENCES[differs]}"] += 1
         if number:
-            self.want(call, what, number, b"\xaa", b"\xaa" * 32)
+            self.want(call, what, f"{differs} {number}", b"\xaa", b"\xaa" * 32)
             return
-        self.want(call, what, 0, bytes([status]), digest)
+        self.want(call, what, f"{differs} 0", bytes([status]), digest)
         self.seen["taken", f"with status {status}"] += 1
         self.seen["taken", "with a digest"] += digest != server.ZEROS
 
@@ -104,7 +109,7 @@ class Calls:
                 sys.exit(f"c_client: {what}\n  got      {line}\n  expected {wanted}")
         if done.returncode != 0 or len(lines) != len(self.wanted):
             sys.exit(f"c_client: {len(lines)} lines for {len(self.wanted)} calls, exit status {done.returncode}")
-        return [bytes.fromhex(line.split()[1])[len(SPARE) : -len(SPARE)] for line in lines]
+        return [bytes.fromhex(line.split()[-1])[len(SPARE) : -len(SPARE)] for line in lines]
 
 
 def numbers(length):

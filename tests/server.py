@@ -45,3 +45,13 @@ def read(length, id, k, received):
         if len(digest) == 32 and received == reply(length, id, k, status, digest):
             return 0, status, digest
     return 43, None, None
+
+
+def difference(length, id, k, received):
+    """The number of the first difference from the expected reply: 1 header, 2 length, 3 code, 4 status, 5 filler; 0 also where none is expected."""
+    if refusal(length, id, k):
+        return 0
+    right = reply(length, id, k, 0, ZEROS)
+    filler = 35 if k == blocks(length) else 3
+    differs = [received[:1] != right[:1], len(received) != len(right), received[1:2] != right[1:2], received[2:3] > b"\1", any(received[filler:])]
+    return 1 + differs.index(True) if any(differs) else 0

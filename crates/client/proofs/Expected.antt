@@ -1,15 +1,17 @@
 -- What is expected of a reply, by its kind, and what is known of a reply that is expected.
 use Prim.Native.Nat.{ℕ, _+_, _-_, _<_, _≤_}
-use mathlib.Core.Path.{_≡_}
-use mathlib.Core.Bool.{Bool, true, false, cond, and-eq-true-iff}
-use mathlib.Core.List.{List}
+use mathlib.Core.Path.{_≡_, refl}
+use mathlib.Core.Bool.{Bool, true, false, not, cond, _&&_}
+use mathlib.Core.List.{List, [], _∷_}
 use native.Mathlib.Omega.{arith}
-use lib.Dec.{eqb}
-use lib.ListN.{length}
-use borrow.Author.Tests.{eqb-true}
-use Rattle.framing.specs.Header.{codeOf}
+use lib.Dec.{eqb, ltb}
+use lib.ListN.{length, getD}
+use borrow.Author.Tests.{eqb-true, ltb-false, eq-eqb, le-ltb}
+use Rattle.endian.proofs.Cases.{impossible}
+use Rattle.framing.specs.Header.{codeOf, headerAt}
 use Rattle.protocol.specs.Commands.{isLast}
-use Rattle.client.specs.Replies.{expectedReply, isExpected}
+use Rattle.client.specs.Replies.{expectedReply, headerIs, allZero, codeIn, statusIn, fillerIn, differenceIn}
+use Rattle.client.specs.declared.Difference.the-variants.{Nothing, Header, Length, Code, Status, Filler}
 use Rattle.client.specs.declared.replies.Expected.{Expected}
 
 -- code, status and digest are within the body
@@ -28,6 +30,39 @@ expected-fits n k = go (eqb k 0) (isLast n (k - 1))
     go false true = record { body = omega arith; filler = omega arith; digest = omega arith; code = omega arith }
     go false false = record { body = omega arith; filler = omega arith; digest = omega arith; code = omega arith }
 
-pub whole-reply : (x : Expected) (id : ℕ) (r : List ℕ) → isExpected x id r ≡ true → length r ≡ 1 + x .len
-unfolding isExpected
-whole-reply x id r e = eqb-true (length r) (1 + x .len) (and-eq-true-iff (eqb (length r) (1 + x .len)) _ .0 e .0)
+and-false : (t : Bool) → t && false ≡ false
+and-false true = refl
+and-false false = refl
+
+-- a reply without a byte has not the header that is expected
+pub no-header : (id n : ℕ) (r : List ℕ) → length r ≡ 0 → headerIs (headerAt (getD r 0 0)) id n ≡ false
+unfolding headerAt
+no-header id n [] e = and-false (eqb 0 id)
+no-header id n (b ∷ r) e = absurd (omega arith)
+
+-- what a reply that differs in nothing is
+pub record Passes (x : Expected) (id : ℕ) (r : List ℕ) : Type 0 where
+  pub header : headerIs (headerAt (getD r 0 0)) id (x .len) ≡ true
+  pub whole : length r ≡ 1 + x .len
+  pub code : codeIn r ≡ x .code
+  pub status : statusIn r ≤ 1
+  pub filler : allZero (fillerIn x r) ≡ true
+
+pub passes : (x : Expected) (id : ℕ) (r : List ℕ) → differenceIn x id r ≡ Nothing → Passes x id r
+unfolding differenceIn
+passes x id r = go _ _ _ _ _ refl refl refl refl refl
+  where
+    go : (a b c d e : Bool) → headerIs (headerAt (getD r 0 0)) id (x .len) ≡ a → eqb (length r) (1 + x .len) ≡ b → eqb (codeIn r) (x .code) ≡ c
+        → ltb 1 (statusIn r) ≡ d → allZero (fillerIn x r) ≡ e
+        → cond (not a) Header (cond (not b) Length (cond (not c) Code (cond d Status (cond (not e) Filler Nothing)))) ≡ Nothing → Passes x id r
+    go false b c d e ea eb ec ed ee q = impossible cc
+    go true false c d e ea eb ec ed ee q = impossible cc
+    go true true false d e ea eb ec ed ee q = impossible cc
+    go true true true true e ea eb ec ed ee q = impossible cc
+    go true true true false false ea eb ec ed ee q = impossible cc
+    go true true true false true ea eb ec ed ee q =
+        record { header = ea; whole = eqb-true _ _ eb; code = eqb-true _ _ ec; status = ltb-false _ _ ed; filler = ee }
+
+pub passed : (x : Expected) (id : ℕ) (r : List ℕ) → Passes x id r → differenceIn x id r ≡ Nothing
+unfolding differenceIn
+passed x id r p = rw (p .header, eq-eqb _ _ (p .whole), eq-eqb _ _ (p .code), le-ltb _ _ (p .status), p .filler)

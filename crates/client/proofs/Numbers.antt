@@ -1,19 +1,22 @@
--- The number of a call: what an answer's tag says of it, and what a call that is accepted was given.
+-- Numbers: what the tag of an answer or of a difference says of it, and what a call that is accepted was given.
 use Prim.Native.Nat.{ℕ, _≤_}
 use mathlib.Core.Path.{_≡_, refl}
 use mathlib.Core.Bool.{Bool, true, false, not, cond, _&&_}
 use mathlib.Core.List.{[], _∷_}
 use native.Mathlib.Omega.{arith}
-use lib.Dec.{leb, ltb}
+use lib.Dec.{eqb, leb, ltb}
 use borrow.Author.Tests.{leb-true, ltb-false}
 use denote.Enum.Declared.{tagOf}
 use types.Run.{OneOf, miss}
 use Rattle.protocol.specs.Commands.{blocksFor}
-use Rattle.client.specs.Answers.{numberOf}
+use Rattle.client.specs.Answers.{numberOf, differenceNumber}
 use Rattle.client.specs.Frames.{refusal}
 use Rattle.client.proofs.Answer.{the-type}
+use Rattle.client.proofs.Difference as difference
 use Rattle.client.specs.declared.Answer.{Answer}
 use Rattle.client.specs.declared.Answer.the-variants.{Accepted, FrameRoom, ProgramLength, FrameId, FrameNumber, UnexpectedReply}
+use Rattle.client.specs.declared.Difference.{Difference}
+use Rattle.client.specs.declared.Difference.the-variants.{Nothing, Header, Length, Code, Status, Filler}
 
 pub refused-tag : (a : Answer) → OneOf (1 ∷ 2 ∷ 3 ∷ 4 ∷ 5 ∷ []) (tagOf the-type a) → numberOf a ≡ 0 → ⊥
 refused-tag Accepted t e = miss (1 ∷ 2 ∷ 3 ∷ 4 ∷ 5 ∷ []) 0 tt t
@@ -30,6 +33,14 @@ accepted-tag ProgramLength t = absurd (omega arith)
 accepted-tag FrameId t = absurd (omega arith)
 accepted-tag FrameNumber t = absurd (omega arith)
 accepted-tag UnexpectedReply t = absurd (omega arith)
+
+pub differs-tag : (d : Difference) → OneOf (1 ∷ 2 ∷ 3 ∷ 4 ∷ 5 ∷ []) (tagOf difference.the-type d) → eqb (differenceNumber d) 0 ≡ false
+differs-tag Nothing t = absurd (miss (1 ∷ 2 ∷ 3 ∷ 4 ∷ 5 ∷ []) 0 tt t)
+differs-tag Header t = refl
+differs-tag Length t = refl
+differs-tag Code t = refl
+differs-tag Status t = refl
+differs-tag Filler t = refl
 
 -- the program, the frame ID and the frame number of a call that is not refused
 pub record Given (n id k : ℕ) : Type 0 where

@@ -1,13 +1,14 @@
 -- The theorem of specs/Theorems.antt: a reply by its parts, and the parts of a reply that is expected.
 use Prim.Native.Nat.{ℕ, suc, _+_, _-_, _*_, _^_, _<_, _≤_}
 use mathlib.Core.Path.{_≡_, refl, sym, ap, _∙_, subst}
+use mathlib.Core.Logic.{_↔_}
 use mathlib.Core.Bool.{Bool, true, false, cond, _&&_, and-eq-true-iff}
 use mathlib.Core.List.{List, [], _∷_, _++_, append-nil}
 use native.Mathlib.Omega.{arith}
-use lib.Dec.{eqb, leb}
+use lib.Dec.{eqb}
 use lib.ListN.{length, getD, take, drop, replicate, length-take, length-drop, length-append, length-replicate, take-append-drop}
 use lib.Seq.{take-all, take-at, drop-at}
-use borrow.Author.Tests.{eq-eqb, ne-eqb, eqb-true, eqb-false, le-leb, leb-true, le-ltb}
+use borrow.Author.Tests.{eq-eqb, ne-eqb, eqb-true, le-leb, le-ltb}
 use Rattle.endian.proofs.Cases.{impossible}
 use Rattle.framing.specs.Header.{Reading, good, stop, headerAt, headerByte}
 use Rattle.framing.proofs.Headers.{headers, fields-of}
@@ -15,15 +16,17 @@ use Rattle.protocol.specs.Commands.{firmware, blocksFor, isLast}
 use Rattle.protocol.specs.Replies.{written, replyHeader, sent, loadReply, blockReply, digestReply}
 use Rattle.endian.specs.Lists.{padded}
 use Rattle.protocol.proofs.Proved.{header-of}
-use Rattle.client.specs.Answers.{numberOf}
+use Rattle.client.specs.Answers.{numberOf, differenceNumber}
 use Rattle.client.specs.Frames.{refusal, secretOf, commandHeader, sizeBytes, loadBody, blockBody, commandBody, commandFrame}
-use Rattle.client.specs.Replies.{expectedReply, headerIs, allZero, digestIn, isExpected, Taking, takingAs, takenAs, refusedWith, taking}
+use Rattle.client.specs.Replies.{expectedReply, headerIs, allZero, digestIn, differenceIn, Taking, takingAs, takenAs, refusedWith, taking, differing}
 use Rattle.client.specs.Theorems.{Expects, Client}
 use Rattle.client.proofs.Numbers.{Given, given}
-use Rattle.client.proofs.Expected.{Fits, expected-fits, whole-reply}
+use Rattle.client.proofs.Expected.{Fits, expected-fits, Passes, passes, passed}
 use Rattle.client.proofs.Zeros.{zeros-are, are-zeros}
 use Rattle.client.specs.declared.Answer.{Answer}
 use Rattle.client.specs.declared.Answer.the-variants.{Accepted, FrameRoom, ProgramLength, FrameId, FrameNumber, UnexpectedReply}
+use Rattle.client.specs.declared.Difference.{Difference}
+use Rattle.client.specs.declared.Difference.the-variants.{Nothing, Header, Length, Code, Status, Filler}
 use Rattle.client.specs.declared.Secret.{Secret}
 use Rattle.client.specs.declared.replies.Expected.{Expected}
 
@@ -45,6 +48,23 @@ back ProgramLength = refl
 back FrameId = refl
 back FrameNumber = refl
 back UnexpectedReply = refl
+
+difference-of : ℕ → Difference
+difference-of n =
+    cond (eqb n 0) Nothing
+    (cond (eqb n 1) Header
+    (cond (eqb n 2) Length
+    (cond (eqb n 3) Code
+    (cond (eqb n 4) Status Filler))))
+
+difference-back : (d : Difference) → difference-of (differenceNumber d) ≡ d
+unfolding difference-of
+difference-back Nothing = refl
+difference-back Header = refl
+difference-back Length = refl
+difference-back Code = refl
+difference-back Status = refl
+difference-back Filler = refl
 
 not-refused : (n id k : ℕ) → Given n id k → refusal n id k ≡ 0
 unfolding refusal
@@ -97,28 +117,22 @@ rest-is d n rest h l z =
     let m : length (drop d rest) ≡ n - suc (suc (length (take d rest))) = length-drop d rest ∙ omega arith in
     sym (take-append-drop d rest) ∙ ap (λ (y : List ℕ). take d rest ++ y) (zeros-are (drop d rest) z ∙ ap (λ (i : ℕ). replicate i 0) m)
 
-parts : (x : Expected) → Fits x → (id : ℕ) (r : List ℕ) → getD r 0 0 < 2 ^ 8 → isExpected x id r ≡ true → Expects x id r
-unfolding isExpected
-parts x f id [] l e = absurd (let w = whole-reply x id [] e in omega arith)
-parts x f id (h ∷ []) l e = absurd (let w = whole-reply x id (h ∷ []) e in omega (arith, f .filler))
-parts x f id (h ∷ c ∷ []) l e = absurd (let w = whole-reply x id (h ∷ c ∷ []) e in omega (arith, f .filler))
+parts : (x : Expected) → Fits x → (id : ℕ) (r : List ℕ) → getD r 0 0 < 2 ^ 8 → Passes x id r → Expects x id r
+parts x f id [] l e = absurd (let w = e .whole in omega arith)
+parts x f id (h ∷ []) l e = absurd (let w = e .whole in omega (arith, f .filler))
+parts x f id (h ∷ c ∷ []) l e = absurd (let w = e .whole in omega (arith, f .filler))
 parts x f id (h ∷ c ∷ s ∷ rest) l e =
-    let w : suc (suc (suc (length rest))) ≡ 1 + x .len = whole-reply x id (h ∷ c ∷ s ∷ rest) e in
-    let a = and-eq-true-iff (eqb (suc (suc (suc (length rest)))) (1 + x .len)) _ .0 e .1 in
-    let b = and-eq-true-iff (headerIs (headerAt h) id (x .len)) _ .0 a in
-    let d = and-eq-true-iff (eqb c (x .code)) _ .0 (b .1) in
-    let g = and-eq-true-iff (leb s 1) _ .0 (d .1) in
-    let p : h ≡ written (headerByte id firmware (x .len)) = byte-is h id (x .len) l (header-is (headerAt h) id (x .len) (b .0)) in
-    let q : c ≡ x .code = eqb-true c (x .code) (d .0) in
+    let w : suc (suc (suc (length rest))) ≡ 1 + x .len = e .whole in
+    let p : h ≡ written (headerByte id firmware (x .len)) = byte-is h id (x .len) l (header-is (headerAt h) id (x .len) (e .header)) in
     let t : rest ≡ take (x .digest) rest ++ replicate (x .len - suc (suc (length (take (x .digest) rest)))) 0 =
-    rest-is (x .digest) (x .len) rest (f .filler) (omega arith) (g .1) in
+    rest-is (x .digest) (x .len) rest (f .filler) (omega arith) (e .filler) in
     let k = length-take (x .digest) rest in
     record {
       status = s;
       digest = take (x .digest) rest;
-      status-small = leb-true s 1 (g .0);
+      status-small = e .status;
       digest-length = k ∙ omega (arith, f .filler);
-      bytes = ap (λ (y : ℕ). y ∷ c ∷ s ∷ rest) p ∙ ap (λ (y : ℕ). written (headerByte id firmware (x .len)) ∷ y ∷ s ∷ rest) q
+      bytes = ap (λ (y : ℕ). y ∷ c ∷ s ∷ rest) p ∙ ap (λ (y : ℕ). written (headerByte id firmware (x .len)) ∷ y ∷ s ∷ rest) (e .code)
           ∙ ap (λ (y : List ℕ). written (headerByte id firmware (x .len)) ∷ x .code ∷ s ∷ y) t;
     }
 
@@ -141,20 +155,15 @@ module _ (x : Expected) (f : Fits x) (id : ℕ) (small : id ≤ 3) (r : List ℕ
   filler-after : allZero (drop (x .digest) tail) ≡ true
   filler-after = ap allZero (drop-at (e .digest) _ (x .digest) (e .digest-length)) ∙ are-zeros (x .len - suc (suc (length (e .digest))))
 
-  is-expected : isExpected x id r ≡ true
-  unfolding isExpected
+  header-right : headerIs (headerAt (written (headerByte id firmware (x .len)))) id (x .len) ≡ true
+  header-right = rw (header-of id (x .len) small (f .code), eq-eqb id id refl, eq-eqb (x .len) (x .len) refl)
+
+  is-expected : differenceIn x id r ≡ Nothing
   is-expected =
       let l : suc (suc (suc (length tail))) ≡ 1 + x .len = (let t = tail-length in omega arith) in
-      rw (
-        e .bytes,
-        eq-eqb (suc (suc (suc (length tail)))) (1 + x .len) l,
-        header-of id (x .len) small (f .code),
-        eq-eqb id id refl,
-        eq-eqb (x .len) (x .len) refl,
-        eq-eqb (x .code) (x .code) refl,
-        le-leb (e .status) 1 (e .status-small),
-      )
-      filler-after
+      rw (e .bytes)
+      (passed x id (written (headerByte id firmware (x .len)) ∷ x .code ∷ e .status ∷ tail)
+      (record { header = header-right; whole = l; code = refl; status = e .status-small; filler = filler-after }))
 
   taken : takenAs x id r ≡ takingAs 0 (e .status) (padded 32 (e .digest))
   taken = rw (is-expected, e .bytes, digest-first)
@@ -168,16 +177,43 @@ gives : (n id k : ℕ) (r : List ℕ) → refusal n id k ≡ 0 → (e : Expects 
     → taking n id k r ≡ takingAs 0 (e .status) (padded 32 (e .digest))
 gives n id k r z e = gives-as n id k r (expectedReply n k) refl z e
 
-takes : (n id k : ℕ) (r : List ℕ) → getD r 0 0 < 2 ^ 8 → taking n id k r .number ≡ 0 → (refusal n id k ≡ 0) × Expects (expectedReply n k) id r
-unfolding taking
-takes n id k r l = go (refusal n id k) refl (eqb (refusal n id k) 0) refl (isExpected (expectedReply n k) id r) refl
+differs : (n id k : ℕ) (r : List ℕ) → refusal n id k ≡ 0 → (differing n id k r ≡ Nothing) ↔ (taking n id k r .number ≡ 0)
+unfolding differing taking
+differs n id k r z = rw z (by-difference (differenceIn (expectedReply n k) id r))
   where
-    go : (j : ℕ) → refusal n id k ≡ j → (a : Bool) → eqb (refusal n id k) 0 ≡ a → (b : Bool) → isExpected (expectedReply n k) id r ≡ b
-        → cond a (cond b (takingAs 0 (getD r 2 0) (digestIn (expectedReply n k) r)) (refusedWith 43)) (refusedWith (refusal n id k)) .number ≡ 0
-        → (refusal n id k ≡ 0) × Expects (expectedReply n k) id r
-    go j p true ea true eb e = (eqb-true (refusal n id k) 0 ea, parts (expectedReply n k) (expected-fits n k) id r l eb)
-    go j p true ea false eb e = absurd (omega arith)
-    go j p false ea b eb e = absurd (eqb-false (refusal n id k) 0 ea e)
+    by-difference : (d : Difference)
+        → (d ≡ Nothing) ↔ (cond (eqb (differenceNumber d) 0) (takingAs 0 (getD r 2 0) (digestIn (expectedReply n k) r)) (refusedWith 43) .number ≡ 0)
+    by-difference Nothing = (λ e. refl, λ e. refl)
+    by-difference Header = (λ e. impossible cc, λ e. absurd (omega arith))
+    by-difference Length = (λ e. impossible cc, λ e. absurd (omega arith))
+    by-difference Code = (λ e. impossible cc, λ e. absurd (omega arith))
+    by-difference Status = (λ e. impossible cc, λ e. absurd (omega arith))
+    by-difference Filler = (λ e. impossible cc, λ e. absurd (omega arith))
+
+not-refusal : (n id k : ℕ) (r : List ℕ) → taking n id k r .number ≡ 0 → refusal n id k ≡ 0
+unfolding taking
+not-refusal n id k r = go (eqb (refusal n id k) 0) refl
+  where
+    go : (t : Bool) → eqb (refusal n id k) 0 ≡ t → cond t (takenAs (expectedReply n k) id r) (refusedWith (refusal n id k)) .number ≡ 0 → refusal n id k ≡ 0
+    go true q e = eqb-true (refusal n id k) 0 q
+    go false q e = e
+
+takes : (n id k : ℕ) (r : List ℕ) → getD r 0 0 < 2 ^ 8 → taking n id k r .number ≡ 0 → (refusal n id k ≡ 0) × Expects (expectedReply n k) id r
+unfolding differing
+takes n id k r l e =
+    let z = not-refusal n id k r e in
+    let d : differenceIn (expectedReply n k) id r ≡ Nothing = rw z at (differs n id k r z .1 e) in
+    (z, parts (expectedReply n k) (expected-fits n k) id r l (passes (expectedReply n k) id r d))
+
+compared : (differing 1 1 0 [] ≡ Header)
+    × (differing 1 1 0 (0x51 ∷ 0x06 ∷ 2 ∷ 1 ∷ []) ≡ Header)
+    × (differing 1 1 0 (0x31 ∷ 0x06 ∷ 2 ∷ 1 ∷ []) ≡ Length)
+    × (differing 1 1 0 (0x31 ∷ 0x06 ∷ 2 ∷ 1 ∷ 0 ∷ []) ≡ Code)
+    × (differing 1 1 0 (0x31 ∷ 0x04 ∷ 2 ∷ 1 ∷ 0 ∷ []) ≡ Status)
+    × (differing 1 1 0 (0x31 ∷ 0x04 ∷ 1 ∷ 1 ∷ 0 ∷ []) ≡ Filler)
+    × (differing 1 1 0 (0x31 ∷ 0x04 ∷ 1 ∷ 0 ∷ 0 ∷ []) ≡ Nothing)
+unfolding differing refusal differenceIn headerAt
+compared = (refl, refl, refl, refl, refl, refl, refl)
 
 -- ---- the replies of `protocol`
 
@@ -237,6 +273,9 @@ client =
       frame = λ program id s k l. ap suc (body-length program s k l);
       header = command-header;
       example = example;
+      differences = λ x y e. sym (difference-back x) ∙ ap difference-of e ∙ difference-back y;
+      differs = differs;
+      compared = compared;
       takes = λ n id k r l. (takes n id k r l, λ e. ap (λ (t : Taking). t .number) (gives n id k r (e .0) (e .1)));
       gives = gives;
       to-load = to-load;

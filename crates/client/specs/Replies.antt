@@ -1,14 +1,16 @@
 -- The head's replies as the server takes them: change request 1, "The server's half".
 use Prim.Native.Nat.{ℕ, _+_, _-_}
-use mathlib.Core.Bool.{Bool, true, false, cond, _&&_}
+use mathlib.Core.Bool.{Bool, true, false, not, cond, _&&_}
 use mathlib.Core.List.{List, [], _∷_}
-use lib.Dec.{eqb, leb}
+use lib.Dec.{eqb, ltb}
 use lib.ListN.{length, getD, take, drop}
 use Rattle.framing.specs.Header.{Reading, good, stop, headerAt}
 use Rattle.protocol.specs.Commands.{firmware, isLast}
 use Rattle.endian.specs.Lists.{padded, zeros}
-use Rattle.client.specs.Answers.{numberOf}
+use Rattle.client.specs.Answers.{numberOf, differenceNumber}
 use Rattle.client.specs.Frames.{refusal}
+use Rattle.client.specs.declared.Difference.{Difference}
+use Rattle.client.specs.declared.Difference.the-variants.{Nothing, Header, Length, Code, Status, Filler}
 use Rattle.client.specs.declared.Taken.{Taken}
 use Rattle.client.specs.declared.replies.Expected.{Expected}
 
@@ -42,14 +44,18 @@ digestIn x r = padded 32 (take (x .digest) (drop 3 r))
 abbrev pub fillerIn : Expected → List ℕ → List ℕ
 fillerIn x r = drop (x .digest) (drop 3 r)
 
--- one whole frame with the expected header and code, a status of 0 or 1, and zero filler
-unfoldable pub isExpected : Expected → ℕ → List ℕ → Bool
-isExpected x id r =
-    eqb (length r) (1 + x .len)
-    && (headerIs (headerAt (getD r 0 0)) id (x .len)
-    && (eqb (codeIn r) (x .code)
-    && (leb (statusIn r) 1
-    && allZero (fillerIn x r))))
+-- the first test that a reply fails; one without a byte fails that of the header, since 0 is a header of endpoint 0
+unfoldable pub differenceIn : Expected → ℕ → List ℕ → Difference
+differenceIn x id r =
+    cond (not (headerIs (headerAt (getD r 0 0)) id (x .len))) Header
+    (cond (not (eqb (length r) (1 + x .len))) Length
+    (cond (not (eqb (codeIn r) (x .code))) Code
+    (cond (ltb 1 (statusIn r)) Status
+    (cond (not (allZero (fillerIn x r))) Filler Nothing))))
+
+-- then it is one whole frame with the expected header and code, a status of 0 or 1, and zero filler
+abbrev pub isExpected : Expected → ℕ → List ℕ → Bool
+isExpected x id r = eqb (differenceNumber (differenceIn x id r)) 0
 
 -- ---- the call
 
@@ -76,6 +82,10 @@ unfoldable pub taking : ℕ → ℕ → ℕ → List ℕ → Taking
 taking n id k r =
     let j = refusal n id k in
     cond (eqb j 0) (takenAs (expectedReply n k) id r) (refusedWith j)
+
+-- where a call is refused with 40, 41 or 42 no reply is expected, so there is nothing to differ from
+unfoldable pub differing : ℕ → ℕ → ℕ → List ℕ → Difference
+differing n id k r = cond (eqb (refusal n id k) 0) (differenceIn (expectedReply n k) id r) Nothing
 
 -- where status and digest are lent: a refused reading leaves them
 unfoldable pub takingInto : ℕ → ℕ → ℕ → List ℕ → ℕ → List ℕ → Taking

@@ -1,4 +1,4 @@
--- What is proved about the two calls besides their promises. The proof is `client` in proofs/Proved.antt.
+-- What is proved about the calls besides their promises. The proof is `client` in proofs/Proved.antt.
 use Prim.Native.Nat.{ℕ, _^_, _-_, _<_, _≤_}
 use mathlib.Core.Path.{_≡_}
 use mathlib.Core.Logic.{_↔_}
@@ -9,10 +9,12 @@ use Rattle.framing.specs.Header.{good, headerAt, headerByte}
 use Rattle.protocol.specs.Commands.{firmware, blocksFor, isLast}
 use Rattle.protocol.specs.Replies.{written, sent, loadReply, blockReply, digestReply}
 use Rattle.endian.specs.Lists.{padded, zeros}
-use Rattle.client.specs.Answers.{numberOf}
+use Rattle.client.specs.Answers.{numberOf, differenceNumber}
 use Rattle.client.specs.Frames.{refusal, secretOf, commandHeader, commandFrame}
-use Rattle.client.specs.Replies.{expectedReply, takingAs, taking}
+use Rattle.client.specs.Replies.{expectedReply, takingAs, taking, differing}
 use Rattle.client.specs.declared.Answer.{Answer}
+use Rattle.client.specs.declared.Difference.{Difference}
+use Rattle.client.specs.declared.Difference.the-variants.{Nothing, Header, Length, Code, Status, Filler}
 use Rattle.client.specs.declared.Secret.{Secret}
 use Rattle.client.specs.declared.replies.Expected.{Expected}
 
@@ -48,3 +50,15 @@ pub record Client : Type 0 where
       → taking n id k (sent (blockReply (commandHeader id))) ≡ takingAs 0 0 (zeros 32)
   pub to-last : (n id k : ℕ) (digest : List ℕ) → refusal n id k ≡ 0 → 1 ≤ k → isLast n (k - 1) ≡ true → length digest ≡ 32
       → taking n id k (sent (digestReply (commandHeader id) digest)) ≡ takingAs 0 0 digest
+  -- the number settles the difference; a reply is taken exactly when it differs in nothing
+  pub differences : (x y : Difference) → differenceNumber x ≡ differenceNumber y → x ≡ y
+  pub differs : (n id k : ℕ) (r : List ℕ) → refusal n id k ≡ 0 → (differing n id k r ≡ Nothing) ↔ (taking n id k r .number ≡ 0)
+  -- which difference is which, and their order, in replies to the load of a program of one byte with ID 1: one without a byte, and one that
+  -- differs in everything, made right place by place
+  pub compared : (differing 1 1 0 [] ≡ Header)
+      × (differing 1 1 0 (0x51 ∷ 0x06 ∷ 2 ∷ 1 ∷ []) ≡ Header)
+      × (differing 1 1 0 (0x31 ∷ 0x06 ∷ 2 ∷ 1 ∷ []) ≡ Length)
+      × (differing 1 1 0 (0x31 ∷ 0x06 ∷ 2 ∷ 1 ∷ 0 ∷ []) ≡ Code)
+      × (differing 1 1 0 (0x31 ∷ 0x04 ∷ 2 ∷ 1 ∷ 0 ∷ []) ≡ Status)
+      × (differing 1 1 0 (0x31 ∷ 0x04 ∷ 1 ∷ 1 ∷ 0 ∷ []) ≡ Filler)
+      × (differing 1 1 0 (0x31 ∷ 0x04 ∷ 1 ∷ 0 ∷ 0 ∷ []) ≡ Nothing)

@@ -6,9 +6,9 @@ mod replies;
 ghost use mathlib.Core.Path.{_≡_};
 ghost use mathlib.Core.Bool.{not};
 ghost use lib.Dec.{eqb};
-ghost use Rattle.client.specs.Answers.{numberOf};
+ghost use Rattle.client.specs.Answers.{numberOf, differenceNumber};
 ghost use Rattle.client.specs.Frames.{refusal, secretOf, makingAs, makingOf, making};
-ghost use Rattle.client.specs.Replies.{takingOf, taking, takingAs, takingInto};
+ghost use Rattle.client.specs.Replies.{differing, takingOf, taking, takingAs, takingInto};
 
 // The user secret (USS) of a load, or none.
 pub struct Secret {
@@ -32,6 +32,22 @@ pub enum Answer {
     UnexpectedReply,
 }
 
+// In what a reply differs from the expected one: the first of these, in this order.
+pub enum Difference {
+    // It is the expected one.
+    Nothing,
+    // Bit 7 or bit 2 of the header is set, or it has another ID, endpoint or body length; or there is no byte at all.
+    Header,
+    // There are more bytes than header and body, or fewer.
+    Length,
+    // Another code than the frame asks for.
+    Code,
+    // A status over 1.
+    Status,
+    // A byte behind the status, or behind the digest of the last reply, that is not zero.
+    Filler,
+}
+
 // What reading a reply gives.
 pub struct Taken {
     pub answer: Answer,
@@ -52,6 +68,20 @@ pub fn answer_number(a: Answer) -> u32
         Answer::FrameId => 41,
         Answer::FrameNumber => 42,
         Answer::UnexpectedReply => 43,
+    }
+}
+
+// The number of a difference; 0 where there is none.
+pub fn difference_number(d: Difference) -> u32
+    ensures { λ r. ⌜ r ≡ differenceNumber d ⌝ }
+{
+    match d {
+        Difference::Nothing => 0,
+        Difference::Header => 1,
+        Difference::Length => 2,
+        Difference::Code => 3,
+        Difference::Status => 4,
+        Difference::Filler => 5,
     }
 }
 
@@ -95,14 +125,27 @@ pub fn read_reply(len: usize, id: u8, k: u32, reply: &[u8]) -> Taken
         return replies::refused(answer);
     };
     let x = replies::reply_to(len as u32, k);
-    if !replies::is_expected(x, id, reply) {
+    let d = replies::difference_in(x, id, reply);
+    let Difference::Nothing = d else {
         return replies::refused(Answer::UnexpectedReply);
-    }
+    };
     Taken {
         answer,
         status: reply[2],
         digest: replies::digest_in(x, reply),
     }
+}
+
+// In what the reply to command frame k of a program of this length differs from the expected one. Nothing where the program has no such
+// frame, or the ID is over 3: then no reply is expected, and read_reply says why.
+pub fn reply_difference(len: usize, id: u8, k: u32, reply: &[u8]) -> Difference
+    ensures { λ r. ⌜ r ≡ differing len id k (now (reply .entry)) ⌝ }
+{
+    let answer = check(len, id, k);
+    let Answer::Accepted = answer else {
+        return Difference::Nothing;
+    };
+    replies::difference_in(replies::reply_to(len as u32, k), id, reply)
 }
 
 // make_frame, for C: include/mastfrap.h. Any `used` but 0 is a yes: of what another language passes as a bool, bit 0 alone would be read.
@@ -145,4 +188,13 @@ pub extern "C" fn mastfrap_read_reply(
         *digest = d;
     }
     n
+}
+
+// reply_difference, for C.
+#[no_mangle]
+pub extern "C" fn mastfrap_difference(len: usize, id: u8, k: u32, reply: &[u8]) -> u32
+    ensures { λ r. ⌜ r ≡ differenceNumber (differing len id k (now (reply .entry))) ⌝ }
+{
+    let d = reply_difference(len, id, k, reply);
+    difference_number(d)
 }

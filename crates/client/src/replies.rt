@@ -4,8 +4,9 @@ ghost use Prim.Native.Nat.{_+_, _≤_};
 ghost use lib.ListN.{length};
 ghost use Rattle.framing.specs.Header.{headerAt};
 ghost use Rattle.client.specs.Answers.{numberOf};
-ghost use Rattle.client.specs.Replies.{expectedReply, headerIs, allZero, isExpected, digestIn, takingOf, refusedWith};
+ghost use Rattle.client.specs.Replies.{expectedReply, headerIs, allZero, differenceIn, digestIn, takingOf, refusedWith};
 use super::Answer;
+use super::Difference;
 use super::Taken;
 
 // What the reply to a frame must be.
@@ -70,24 +71,30 @@ fn all_zero(bytes: &[u8]) -> bool
     true
 }
 
-// Whether a reply is the one that is expected.
-pub fn is_expected(x: Expected, id: u8, reply: &[u8]) -> bool
+// In what a reply differs from the one that is expected.
+pub fn difference_in(x: Expected, id: u8, reply: &[u8]) -> Difference
     requires { ⌜ (x .len ≤ 128) × (x .digest + 2 ≤ x .len) ⌝ }
-    ensures { λ r. ⌜ r ≡ isExpected x id (now (reply .entry)) ⌝ }
+    ensures { λ r. ⌜ r ≡ differenceIn x id (now (reply .entry)) ⌝ }
 {
-    if reply.len() != 1 + x.len {
-        return false;
+    if reply.len() == 0 {
+        return Difference::Header;
     }
     if !header_is(reply[0], id, x.len) {
-        return false;
+        return Difference::Header;
+    }
+    if reply.len() != 1 + x.len {
+        return Difference::Length;
     }
     if reply[1] != x.code {
-        return false;
+        return Difference::Code;
     }
     if 1 < reply[2] {
-        return false;
+        return Difference::Status;
     }
-    all_zero(&reply[3 + x.digest..])
+    if !all_zero(&reply[3 + x.digest..]) {
+        return Difference::Filler;
+    }
+    Difference::Nothing
 }
 
 // The digest in a reply that has one, and otherwise zeros.

@@ -3,7 +3,7 @@ ghost use mathlib.Core.Path.{_≡_};
 ghost use mathlib.Core.List.{[], _∷_};
 ghost use Prim.Native.Nat.{_/_, _%_};
 ghost use lib.ListN.{getD, length};
-ghost use Rattle.endian.specs.Lists.{zeros};
+ghost use Rattle.endian.specs.Lists.{zeros, same};
 ghost use Rattle.endian.specs.Endian.{word, byteOf, firstBytes};
 
 // The word of four bytes.
@@ -55,4 +55,11 @@ pub fn clear(words: &mut [u32])
         words[i] = 0;
         i += 1;
     }
+}
+
+// Whether two slices hold the same bytes.
+pub fn equal(a: &[u8], b: &[u8]) -> bool
+    ensures { λ r. ⌜ r ≡ same (now (a .entry)) (now (b .entry)) ⌝ }
+{
+    check::same(a, b)
 }

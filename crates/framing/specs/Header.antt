@@ -76,6 +76,11 @@ headerAt b =
     (good (inField frameId b) (inField endpoint b) (lengthOf (inField lengthCode b)))
     (stop 22)
 
+-- the body's length that a header gives; 0 for a bad one
+abbrev pub bodyLen : Reading → ℕ
+bodyLen (good id ep n) = n
+bodyLen (stop k) = 0
+
 -- what writing a header reports
 pub data Writing : Type 0 where
   byte : ℕ → Writing

@@ -2,7 +2,7 @@
 // Document 01, "Header byte", in the terms of specs/Header.antt.
 ghost use mathlib.Core.Path.{_≡_};
 ghost use Prim.Native.Nat.{_<_};
-ghost use Rattle.framing.specs.Header.{frameId, inField, headerAt, headerByte, lengthOf, codeOf};
+ghost use Rattle.framing.specs.Header.{frameId, inField, headerAt, headerByte, lengthOf, codeOf, bodyLen};
 ghost use Rattle.framing.specs.Answers.{readingOf, writingOf};
 
 // What a header byte says.
@@ -67,6 +67,20 @@ pub fn read_header(b: u8) -> Header
         id: frame_id(b),
         endpoint: b / 8 % 4,
         len: body_length(b % 4),
+    }
+}
+
+// The length of the body that a header gives; 0 for a bad header.
+pub fn body_len(header: u8) -> u8
+    ensures { λ r. ⌜ r ≡ bodyLen (headerAt header) ⌝ }
+{
+    match read_header(header) {
+        Header::Good {
+            id: _,
+            endpoint: _,
+            len,
+        } => len,
+        Header::Bad => 0,
     }
 }
 

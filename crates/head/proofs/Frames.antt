@@ -9,8 +9,8 @@ use lib.Dec.{eqb}
 use lib.ListN.{length, getD, set, drop, drop-of-length-le}
 use lib.Seq.{drop-cons, paste, paste-zero, paste-suc}
 use borrow.Author.Tests.{ne-eqb, lt-ltb, le-ltb}
-use Rattle.framing.specs.Header.{good, headerAt}
-use Rattle.head.specs.State.{bodyLen, idle}
+use Rattle.framing.specs.Header.{good, headerAt, bodyLen}
+use Rattle.head.specs.State.{idle}
 use Rattle.head.specs.Machine.{withByte, gathered, processed, step}
 use Rattle.head.specs.Theorems.{gatheredOn, gatheredAll}
 use Rattle.head.proofs.Ranges.{body-small, length-some}

@@ -1,4 +1,3 @@
-pub mod Same
 pub mod Ranges
 pub mod Actions
 pub mod Admitted

@@ -6,10 +6,10 @@ use native.Mathlib.Omega.{arith}
 use lib.Dec.{eqb, leb}
 use borrow.Author.Tests.{eqb-true, ltb-true, leb-true}
 use Rattle.endian.proofs.Cases.{impossible}
-use Rattle.framing.specs.Header.{Reading, good, headerAt, lengthOf}
+use Rattle.framing.specs.Header.{Reading, good, headerAt, lengthOf, bodyLen}
 use Rattle.framing.proofs.Headers.{by-bits}
 use Rattle.protocol.specs.Commands.{lengthOk, blocksFor, placeOf, countIn}
-use Rattle.head.specs.State.{bodyLen, incomingOk, loadingOk, progressIn, progressOk, inRange}
+use Rattle.head.specs.State.{incomingOk, loadingOk, progressIn, progressOk, inRange}
 use Rattle.head.specs.Machine.{actionIn, actionWaiting}
 use Rattle.head.specs.declared.Phase.{Phase}
 use Rattle.head.specs.declared.Phase.the-variants.{Waiting, Loading, Started, Stopped}

@@ -9,13 +9,13 @@ use lib.ListN.{length, getD, take, drop, length-set, length-drop}
 use lib.Seq.{paste, length-paste, drop-paste, take-at, length-take-le}
 use borrow.Author.Tests.{eqb-true, eqb-false, ltb-true, lt-ltb, le-leb, ne-eqb}
 use Rattle.endian.proofs.Cases.{impossible}
-use Rattle.framing.specs.Header.{Reading, good, stop, headerAt}
+use Rattle.framing.specs.Header.{Reading, good, stop, headerAt, bodyLen}
 use Rattle.protocol.specs.Commands.{placeOf, countIn, isLast}
 use Rattle.protocol.specs.Replies.{sent, nameReply, udiReply, blockReply, digestReply, putIn}
 use Rattle.protocol.specs.Theorems.{Framed}
 use Rattle.protocol.proofs.Proved.{protocol}
 use Rattle.protocol.specs.declared.Reply.{Reply}
-use Rattle.head.specs.State.{bodyLen, incomingOk, loadingOk, progressIn, progressOk, live, ended}
+use Rattle.head.specs.State.{incomingOk, loadingOk, progressIn, progressOk, live, ended}
 use Rattle.head.specs.Answers.{stopped, continues, Outcome}
 use Rattle.head.specs.Machine.{plain, stopping, starting, opened, withByte, continued, gathered, actionIn, between, replying, loaded, loadOf, takes, loadAnswer, afterLoad, frameIn, storedIn, nextBlock, allowed, finishedWith, actedBlock, performed, acted, refusal, withIncoming, afterByte, processed, refusing, step}
 use Rattle.head.specs.Theorems.{SameButBlock}

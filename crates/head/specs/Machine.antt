@@ -5,7 +5,7 @@ use mathlib.Core.List.{List, [], _∷_}
 use lib.Dec.{eqb, ltb}
 use lib.ListN.{length, take, set}
 use lib.Seq.{paste}
-use Rattle.framing.specs.Header.{Reading, good, stop, headerAt}
+use Rattle.framing.specs.Header.{Reading, good, stop, headerAt, bodyLen}
 use Rattle.rfc7693.specs.Rfc7693.{blake2s}
 use Rattle.endian.specs.Endian.{bytes}
 use Rattle.cdi.specs.Cdi.{cdiOf}
@@ -13,8 +13,8 @@ use Rattle.protocol.specs.Commands.{firmware, commandIn, loadIn, goodLoad, uses
 use Rattle.protocol.specs.Replies.{sent, putIn, nameReply, udiReply, loadReply, blockReply, digestReply}
 use Rattle.protocol.specs.declared.Load.{Load}
 use Rattle.protocol.specs.declared.Reply.{Reply}
-use Rattle.endian.specs.Lists.{zeros}
-use Rattle.head.specs.State.{same, bodyLen, inRange, live, idle, ended}
+use Rattle.endian.specs.Lists.{zeros, same}
+use Rattle.head.specs.State.{inRange, live, idle, ended}
 use Rattle.head.specs.Answers.{Report, refused, continues, stopped, started, Outcome}
 use Rattle.head.specs.declared.Phase.{Phase}
 use Rattle.head.specs.declared.Phase.the-variants as phase

@@ -1,28 +1,15 @@
 -- The state of a head between two bytes, and the range of each field: refusal 1 of document 01, docs/STATES.md.
 use Prim.Native.Nat.{ℕ}
 use mathlib.Core.Bool.{Bool, true, false, not, cond, _&&_}
-use mathlib.Core.List.{List, [], _∷_}
 use lib.Dec.{eqb, leb, ltb}
-use Rattle.endian.specs.Lists.{zeros}
-use Rattle.framing.specs.Header.{Reading, good, stop, headerAt}
+use Rattle.endian.specs.Lists.{zeros, same}
+use Rattle.framing.specs.Header.{headerAt, bodyLen}
 use Rattle.protocol.specs.Commands.{lengthOk, blocksFor}
 use Rattle.head.specs.declared.Phase.{Phase}
 use Rattle.head.specs.declared.Phase.the-variants.{Waiting, Loading, Started, Stopped}
 use Rattle.head.specs.declared.Incoming.{Incoming}
 use Rattle.head.specs.declared.Progress.{Progress}
 use Rattle.head.specs.declared.State.{State}
-
--- whether two lists hold the same bytes
-abbrev pub same : List ℕ → List ℕ → Bool
-same [] [] = true
-same [] (y ∷ ys) = false
-same (x ∷ xs) [] = false
-same (x ∷ xs) (y ∷ ys) = eqb x y && same xs ys
-
--- the body's length that a header gives; 0 for a bad one
-abbrev pub bodyLen : Reading → ℕ
-bodyLen (good id ep n) = n
-bodyLen (stop k) = 0
 
 -- between frames header and got are 0; in a frame the header is good, and got, which counts it, is at most its body's length
 abbrev pub incomingOk : Incoming → Bool

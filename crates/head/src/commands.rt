@@ -66,5 +66,5 @@ pub fn decide(s: State) -> Action
     let phase = p.phase;
     let i = s.incoming;
     let body = i.body;
-    action_in(phase, body[0], states::body_len(i.header))
+    action_in(phase, body[0], framing::body_len(i.header))
 }

@@ -1,35 +1,12 @@
 // The state: the range of each field (docs/STATES.md), and what it is after a start or a stop.
 ghost use mathlib.Core.Path.{_≡_};
-ghost use Rattle.framing.specs.Header.{headerAt};
 ghost use Rattle.head.specs.Machine.{allowed};
-ghost use Rattle.head.specs.State.{same, bodyLen, incomingOk, waitingOk, loadingOk, progressOk, inRange, live, ended, idle};
+ghost use Rattle.head.specs.State.{incomingOk, waitingOk, loadingOk, progressOk, inRange, live, ended, idle};
 use super::Config;
 use super::Incoming;
 use super::Phase;
 use super::Progress;
 use super::State;
-use framing::Header;
-
-// Whether two slices hold the same bytes.
-pub fn equal(a: &[u8], b: &[u8]) -> bool
-    ensures { λ r. ⌜ r ≡ same (now (a .entry)) (now (b .entry)) ⌝ }
-{
-    check::same(a, b)
-}
-
-// The length of the body that a header gives; 0 for a bad header.
-pub fn body_len(header: u8) -> u8
-    ensures { λ r. ⌜ r ≡ bodyLen (headerAt header) ⌝ }
-{
-    match framing::read_header(header) {
-        Header::Good {
-            id: _,
-            endpoint: _,
-            len,
-        } => len,
-        Header::Bad => 0,
-    }
-}
 
 fn incoming_ok(i: Incoming) -> bool
     ensures { λ r. ⌜ r ≡ incomingOk i ⌝ }
@@ -37,7 +14,7 @@ fn incoming_ok(i: Incoming) -> bool
     if i.got == 0 {
         return i.header == 0;
     }
-    i.got <= body_len(i.header)
+    i.got <= framing::body_len(i.header)
 }
 
 fn waiting_ok(p: Progress) -> bool
@@ -54,7 +31,7 @@ fn waiting_ok(p: Progress) -> bool
     }
     let uss = p.uss;
     let none = [0u8; 32];
-    equal(&uss, &none)
+    endian::equal(&uss, &none)
 }
 
 fn loading_ok(p: Progress, ram_len: usize) -> bool
@@ -152,5 +129,5 @@ pub fn allowed(c: Config, digest: [u8; 32]) -> bool
         return true;
     }
     let required = c.required;
-    equal(&digest, &required)
+    endian::equal(&digest, &required)
 }

@@ -9,7 +9,7 @@ use lib.Dec.{eqb}
 use lib.ListN.{length, getD, take, drop, drop-of-length-le, length-append}
 use lib.Seq.{length-paste, take-paste, take-append-add, take-all}
 use borrow.Author.Tests.{eqb-true, eqb-false}
-use Rattle.framing.specs.Header.{headerAt}
+use Rattle.framing.specs.Header.{headerAt, bodyLen}
 use Rattle.rfc7693.specs.Rfc7693.{blake2s}
 use Rattle.endian.specs.Endian.{bytes}
 use Rattle.cdi.specs.Cdi.{cdiString, cdiOf}
@@ -18,12 +18,12 @@ use Rattle.protocol.specs.Replies.{sent, putIn, loadReply, blockReply, digestRe
 use Rattle.protocol.specs.declared.Reply.{Reply}
 use Rattle.protocol.proofs.Proved.{protocol}
 use Rattle.record.specs.Record.{typeField, requiredField, fieldOf, numberIn, recordAt}
-use Rattle.endian.specs.Lists.{zeros, All}
-use Rattle.head.specs.State.{same, bodyLen, idle, ended}
+use Rattle.endian.specs.Lists.{zeros, All, same}
+use Rattle.head.specs.State.{idle, ended}
+use Rattle.endian.proofs.Same.{same-refl, same-eq}
 use Rattle.head.specs.Answers.{continues, stopped, started, Outcome}
 use Rattle.head.specs.Begin.{waiting, configOf}
 use Rattle.head.specs.Machine.{actionIn, frameIn, storedIn, replying, loadAnswer, afterLoad, starting, allowed, finishedWith, actedBlock, performed, acted}
-use Rattle.head.proofs.Same.{same-refl, same-eq}
 use Rattle.head.proofs.Ranges.{never, by-test, length-some}
 use Rattle.session.specs.Reading.{Good, forFirmware, bodyOf, QueryFrame, LoadFrame, Opens, BlockFrame, carried, sizeOf, programOf, digestOf, Allowed, chained, measuredId}
 use Rattle.session.proofs.Frames.{All-append, good-some}

@@ -1,11 +1,11 @@
 -- Parts of a text, one behind the other.
-use Prim.Native.Nat.{ℕ, zero, suc, _+_, _-_, _/_, _%_, _<_, _≤_}
+use Prim.Native.Nat.{ℕ, zero, suc, _+_, _-_, _<_, _≤_}
 use native.Mathlib.Omega.{arith}
 use native.Mathlib.Nat.{not-suc-le-zero}
 use native.Mathlib.Numerals.{add-one}
 use mathlib.Core.Path.{_≡_, refl, ap, sym, _∙_}
 use mathlib.Core.List.{List, [], _∷_, _++_, append-assoc, append-nil}
-use lib.ListN.{length, set, getD, drop, take, replicate, length-append}
+use lib.ListN.{length, set, getD, drop, replicate, length-append}
 use lib.Seq.{set-append-seam, drop-cons}
 use borrow.Author.Tests.{lt-ltb}
 use Rattle.endian.specs.Lists.{padded}

@@ -1,9 +1,9 @@
 // A text of at most 512 bytes as a value, put together part by part. A part that does not fit is cut; whoever makes a text shows that it fits.
 ghost use mathlib.Core.Path.{_≡_};
-ghost use mathlib.Core.List.{List, [], _∷_};
+ghost use mathlib.Core.List.{[], _∷_};
 ghost use Prim.Native.Nat.{_<_};
 ghost use lib.ListN.{replicate};
-ghost use Rattle.text.specs.Text.{hexDigit, hexOf, decimalOf, withByte, added, textOf};
+ghost use Rattle.text.specs.Text.{hexDigit, hexOf, decimalOf, added, textOf};
 
 pub struct Text {
     pub len: usize,

@@ -3,12 +3,13 @@ use Prim.Native.Nat.{_+_}
 use mathlib.Core.Path.{_≡_, sym, _∙_}
 use native.Mathlib.Omega.{arith}
 use lib.ListN.{length}
-use borrow.Author.Tests.{ne-eqb, not-true, not-false}
+use borrow.Author.Tests.{ne-eqb}
 use Rattle.client.specs.Frames.{refusal}
-use Rattle.client.specs.Replies.{taking}
-use Rattle.client.proofs.Numbers.{refused-tag, accepted-tag, given}
-use Rattle.client.proofs.Expected.{Fits, expected-fits, whole-reply}
+use Rattle.client.specs.Replies.{differenceIn, taking}
+use Rattle.client.proofs.Numbers.{refused-tag, accepted-tag, differs-tag, given}
+use Rattle.client.proofs.Expected.{Fits, expected-fits, passes}
 use Rattle.client.specs.declared.replies.Expected.{Expected}
+use Rattle.client.specs.declared.Difference.the-variants.{Nothing}
 use borrow.Author.Needs.{needs}
 use Rattle.client.proofs.read_reply.Statement.{statement}
 use Rattle.client.proofs.read_reply.Tie as tie
@@ -34,8 +35,8 @@ returns c =
 cast-reply-to : tie.Need-cast-reply-to
 cast-reply-to c = let g = given _ _ _ (accepted (c .before)) in omega (arith, g .small)
 
-is-expected-requires : tie.Need-is-expected-requires
-is-expected-requires c κs =
+difference-in-requires : tie.Need-difference-in-requires
+difference-in-requires c κs =
     let a = c .before .before .before .before .before .args in
     let f = expected-fits (a .len) (a .k) in
     rw (c .reply-to .ensures) (f .body, f .filler)
@@ -45,25 +46,31 @@ unfolding taking
 returns-2 c =
     let t = c .before .before in
     let m = t .before .before .before in
-    let x = t .is-expected in
-    rw (c .refused2 .ensures, accepted m, ← (t .before .reply-to .ensures), ← (x .ensures), not-true (x .result) (c .before .if1 .taken))
+    let d = t .difference-in in
+    rw (c .refused2 .ensures, accepted m, ← (t .before .reply-to .ensures), ← (d .ensures), differs-tag (d .result) (c .before .match2 .keys2))
 
 -- a reply that is expected
-module _ (i : tie.Else1) where
+module _ (i : tie.After-enum-told2) where
+  abbrev compared : tie.After-difference-in
+  compared = i .before .before
+
   abbrev expects : Expected
-  expects = i .before .before .reply-to .result
+  expects = compared .before .reply-to .result
 
   abbrev begin : tie.Start
-  begin = start (i .before .before .before .before)
+  begin = start (compared .before .before .before)
 
   fits : Fits expects
-  fits = rw (i .before .before .reply-to .ensures) (expected-fits (begin .args .len) (begin .args .k))
+  fits = rw (compared .before .reply-to .ensures) (expected-fits (begin .args .len) (begin .args .k))
+
+  nothing : differenceIn expects (begin .args .id) (begin .args .reply .now) ≡ Nothing
+  nothing = sym (compared .difference-in .ensures) ∙ i .enum-told2 .given .1
 
   long : length (begin .args .reply .now) ≡ 1 + expects .len
-  long = whole-reply expects _ _ (sym (i .before .is-expected .ensures) ∙ not-false (i .before .is-expected .result) (i .if1 .left))
+  long = passes expects _ _ nothing .whole
 
-shared-slice-read-t12 : tie.Need-shared-slice-read-t12
-shared-slice-read-t12 c =
+shared-slice-read-t11 : tie.Need-shared-slice-read-t11
+shared-slice-read-t11 c =
     let f = fits (c .before) in
     let l = long (c .before) in
     omega (arith, f .filler)
@@ -78,10 +85,9 @@ returns-3 : tie.Need-returns-3
 unfolding taking
 returns-3 c =
     let i = c .before .before in
-    let t = i .before in
+    let t = compared i in
     let m = t .before .before .before in
-    let x = t .is-expected in
-    rw (m .before .check .ensures, accepted m, c .digest-in .ensures, ← (t .before .reply-to .ensures), ← (x .ensures), not-false (x .result) (i .if1 .left))
+    rw (m .before .check .ensures, accepted m, c .digest-in .ensures, ← (t .before .reply-to .ensures), nothing i)
 
 pub read-reply-spec : {M : Type 1} → statement M
 read-reply-spec =
@@ -93,9 +99,10 @@ read-reply-spec =
     returns
     cast-reply-to
     (λ c κs. search needs)
-    is-expected-requires
+    difference-in-requires
+    (λ c. search needs)
     (λ c κs. search needs)
     returns-2
-    shared-slice-read-t12
+    shared-slice-read-t11
     digest-in-requires
     returns-3)

@@ -1,5 +1,5 @@
 -- What the byte leads to (`led`) says which definition the outcome is.
-use mathlib.Core.Path.{_≡_, refl, _∙_}
+use mathlib.Core.Path.{_≡_, refl}
 use native.Mathlib.Omega.{arith}
 use Rattle.head.specs.Machine.{withIncoming, afterByte, processed}
 use Rattle.head.specs.declared.State.{State}

@@ -1,5 +1,4 @@
 -- The digits that io gives are the decimal form.
-use native.Mathlib.Omega.{arith}
 use mathlib.Core.Path.{_∙_}
 use Rattle.text.proofs.Decimals.{few, decimal-of}
 use borrow.Author.Needs.{needs}

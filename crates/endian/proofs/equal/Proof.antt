@@ -1,8 +1,8 @@
 -- What the test says both ways is `same`.
-use Rattle.head.proofs.Same.{same-is}
+use Rattle.endian.proofs.Same.{same-is}
 use borrow.Author.Needs.{needs}
-use Rattle.head.proofs.states.equal.Statement.{statement}
-use Rattle.head.proofs.states.equal.Tie as tie
+use Rattle.endian.proofs.equal.Statement.{statement}
+use Rattle.endian.proofs.equal.Tie as tie
 
 returns : tie.Need-returns
 returns c = same-is _ _ _ (c .same .ensures .0) (c .same .ensures .1)

@@ -1,7 +1,7 @@
 -- What the reader of headers gives.
 use borrow.Author.Needs.{needs}
-use Rattle.head.proofs.states.body_len.Statement.{statement}
-use Rattle.head.proofs.states.body_len.Tie as tie
+use Rattle.framing.proofs.body_len.Statement.{statement}
+use Rattle.framing.proofs.body_len.Tie as tie
 
 returns : tie.Need-returns
 returns c = rw (← (c .before .before .before .read-header .ensures), c .before .len .given .1)

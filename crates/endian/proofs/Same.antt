@@ -5,8 +5,8 @@ use mathlib.Core.List.{List, [], _∷_}
 use mathlib.Core.Path.{_≡_, refl, sym}
 use lib.Dec.{eqb}
 use borrow.Author.Tests.{eq-eqb, eqb-true}
 use Rattle.endian.proofs.Cases.{impossible}
-use Rattle.head.specs.State.{same}
+use Rattle.endian.specs.Lists.{same}
 
 pub same-refl : (xs : List ℕ) → same xs xs ≡ true
 same-refl [] = refl
