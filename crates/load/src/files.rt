@@ -6,22 +6,29 @@ use upload::Failure;
 use upload::Job;
 use upload::Turn;
 
-// Reads a file: how many bytes are at the front of buf now, at most all of it, or -1 where it cannot be read. A read that fails and the end
-// of a file look alike to read_full, so one more read tells.
-pub fn read(name: &[u8], buf: &mut [u8]) -> i64 {
+// What reading a file gives.
+pub enum Contents {
+    // So many bytes.
+    Bytes(usize),
+    Unreadable,
+}
+
+// Reads a file into buf, to its end or as much as there is room for. A read that fails and the end of a file look alike to read_full, so one
+// more read tells.
+pub fn read(name: &[u8], buf: &mut [u8]) -> Contents {
     let fd = os::open_read(name);
     if fd < 0 {
-        return -1;
+        return Contents::Unreadable;
     }
     let n = io::read_full(fd, buf);
     if n < buf.len() {
         let mut more = [0u8; 1];
         if libc::read(fd, &mut more) != 0 {
-            return -1;
+            return Contents::Unreadable;
         }
     }
     libc::close(fd);
-    n as i64
+    Contents::Bytes(n)
 }
 
 // The first n bytes. No caller asks for more than there are, and the test spares each the proof of it.
@@ -39,7 +46,7 @@ pub fn no_secret() -> Secret {
 // The secret in a file of 32 bytes.
 pub fn secret_in(file: [u8; 33]) -> Secret {
     let mut uss = [0u8; 32];
-    let mut i: usize = 0;
+    let mut i = 0;
     while i < 32 {
         uss[i] = file[i];
         i += 1;

@@ -8,6 +8,7 @@ use upload::Turn;
 
 // Where bytes come from the head, and where they go to it.
 pub const INPUT: i32 = 4;
+
 const OUTPUT: i32 = 5;
 
 // Sends frames and reads replies until the load is over.
@@ -25,9 +26,7 @@ pub fn converse(program: &[u8], job: Job, secret: Secret) -> Turn {
         t = u;
         let next = t.next;
         over = upload::is_over(next);
-        if terminal {
-            show(job, x.k, next, began);
-        }
+        show(terminal, job.len, x.k, next, began);
     }
     t
 }
@@ -63,14 +62,15 @@ fn receive() -> Event {
 // ---- progress
 
 // After the reply to frame k so many blocks are done; the line is ended with the load.
-fn show(job: Job, k: u32, next: Next, began: i64) {
+fn show(terminal: bool, len: usize, k: u32, next: Next, began: u64) {
+    if !terminal {
+        return;
+    }
     match next {
         Next::Wait => {}
-        Next::Send => {
-            text::write(STDERR_FILENO, upload::progress(job.len, k, since(began)));
-        }
+        Next::Send => show_progress(len, k, began),
         Next::Loaded => {
-            text::write(STDERR_FILENO, upload::progress(job.len, k, since(began)));
+            show_progress(len, k, began);
             io::write_all(STDERR_FILENO, b"\n");
         }
         Next::Failed(_) => {
@@ -79,20 +79,29 @@ fn show(job: Job, k: u32, next: Next, began: i64) {
     }
 }
 
-// In seconds; -1 where the system does not know.
-fn now() -> i64 {
+fn show_progress(len: usize, done: u32, began: u64) {
+    text::write(STDERR_FILENO, upload::progress(len, done, since(began)));
+}
+
+// A number that is not below 0; 0 for one that is.
+fn not_below_zero(n: i64) -> u64 {
+    if n < 0 {
+        return 0;
+    }
+    n as u64
+}
+
+// In seconds; 0 where the system does not know.
+fn now() -> u64 {
     let mut t: i64 = 0;
-    libc::time(&mut t)
+    not_below_zero(libc::time(&mut t))
 }
 
 // The seconds since a time; 0 where a clock was set back.
-fn since(began: i64) -> u64 {
+fn since(began: u64) -> u64 {
     let t = now();
-    if began < 0 {
-        return 0;
-    }
     if t < began {
         return 0;
     }
-    (t - began) as u64
+    t - began
 }

@@ -6,6 +6,7 @@ mod files;
 mod line;
 
 use client::Secret;
+use files::Contents;
 use libc::STDERR_FILENO;
 use libc::STDOUT_FILENO;
 use upload::Failure;
@@ -24,11 +25,10 @@ fn run() -> u32 {
     let mut program = [0u8; 131073];
     let mut name = io::buffer();
     let n = os::arg(2, &mut name);
-    let got = files::read(&name[..n], &mut program);
-    if got < 0 {
+    let Contents::Bytes(len) = files::read(&name[..n], &mut program) else {
         return files::fail(&name[..n]);
-    }
-    let bytes = files::first(&program, got as usize);
+    };
+    let bytes = files::first(&program, len);
     let job = job_of(bytes);
     let t = upload::open(job);
     let next = t.next;
@@ -58,11 +58,10 @@ fn with_secret(program: &[u8], job: Job) -> u32 {
     let mut name = io::buffer();
     let n = os::arg(5, &mut name);
     let mut file = [0u8; 33];
-    let got = files::read(&name[..n], &mut file);
-    if got < 0 {
+    let Contents::Bytes(len) = files::read(&name[..n], &mut file) else {
         return files::fail(&name[..n]);
-    }
-    if got != 32 {
+    };
+    if len != 32 {
         return files::say(&name[..n], job, upload::open(job), Failure::SecretLength);
     }
     load(program, job, files::secret_in(file))
