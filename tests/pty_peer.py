@@ -116,7 +116,7 @@ class Done:
 
 
 def play(command, peer, seconds=SECONDS):
-    """Runs a command, with the terminal's name for TTY, while the peer is at the other end; a command that is not over in time is killed."""
+    """Runs a command, with the terminal's name for TTY, while the peer is at the other end; one that is not over in time is killed."""
     terminal = Terminal()
     terminal.line.pull = terminal.pull
     words = [terminal.name if word == TTY else word for word in command]

@@ -131,7 +131,7 @@ def read_late(folder):
     head = Head()
     head.ask(server.frame(program, 0, None, 0), server.reply(1, 0, 0, 0, b""))
     head.line.write(last)
-    time.sleep(1)
+    time.sleep(0.5)
     head.ask(b"", server.reply(1, 0, 1, 0, blake2s(program)))
     began = time.monotonic()
     head.ends(0, shown(program, started(program)))
@@ -257,7 +257,8 @@ def not_built(folder):
     shutil.copy(TOP / "scripts" / "built", top / "scripts")
     (top / "bin" / "rt").write_text("#!/bin/sh\necho not proved\nexit 1\n")
     (top / "bin" / "rt").chmod(0o755)
-    done = subprocess.run([top / "simulate"], env={**os.environ, "PATH": f"{top}/bin:{os.environ['PATH']}"}, capture_output=True, timeout=SECONDS)
+    environment = {**os.environ, "PATH": f"{top}/bin:{os.environ['PATH']}"}
+    done = subprocess.run([top / "simulate"], env=environment, capture_output=True, timeout=SECONDS)
     expect("not built", (done.returncode, done.stdout, done.stderr), (1, b"", b"not proved\n"))
 
 
@@ -275,7 +276,9 @@ def cases():
     for seed, (size, kind, chained, secret) in enumerate(kinds):
         what = f"{size} bytes, type {kind}, {'chained' if chained else 'direct'}, {'a' if secret else 'no'} user secret"
         yield what, lambda folder, given=(seed, size, kind, chained, secret): load(folder, *given)
-    for case in (no_room, opened_often, read_late, never_read, other_digest, stops_while_loading, terminal_start, terminal_stop, usage, not_built, dies):
+    for case in (no_room, opened_often, read_late, never_read, other_digest, stops_while_loading, terminal_start, terminal_stop):
+        yield case.__name__, case
+    for case in (usage, not_built, dies):
         yield case.__name__, case
     yield "stop 22", stops(22, b"\x90")
     yield "stop 22 after a query", stops(22, b"\x14")
