@@ -11,7 +11,7 @@ use lib.Dec.{eqb, ltb}
 use lib.ListN.{length, getD}
 use borrow.Author.Tests.{eq-eqb, eqb-true, eqb-false, lt-ltb, ltb-true, ltb-false}
 use Rattle.endian.proofs.Cases.{impossible}
-use Rattle.framing.specs.Header.{indexOf, lengthOf, codeOf, Reading, good, stop, Writing, byte, refused, headerAt, headerByte, inField, frameId, endpoint}
+use Rattle.framing.specs.Header.{indexOf, lengthOf, codeOf, Reading, good, stop, Writing, byte, refused, headerAt, headerByte, bodyLen, inField, frameId, endpoint}
 use Rattle.framing.specs.Answers.{readingOf, writingOf}
 use Rattle.framing.specs.Theorems.{Headers, bit}
 use Rattle.framing.specs.declared.Header.{Header}
@@ -116,6 +116,17 @@ module _ (b : ℕ) where
       go true true p q = f (eqb-true (b / 128 % 2) 0 p) (eqb-true (b / 4 % 2) 0 q)
       go true false p q = g (inr (omega (arith, eqb-false (b / 4 % 2) 0 q)))
       go false y p q = g (inl (omega (arith, eqb-false (b / 128 % 2) 0 p)))
+
+-- a body has at most 128 bytes
+length-small : (c : ℕ) → c < 4 → lengthOf c ≤ 128
+length-small zero h = omega arith
+length-small (suc zero) h = omega arith
+length-small (suc (suc zero)) h = omega arith
+length-small (suc (suc (suc zero))) h = omega arith
+length-small (suc (suc (suc (suc c)))) h = absurd (omega arith)
+
+pub body-small : (h : ℕ) → bodyLen (headerAt h) ≤ 128
+body-small h = by-bits h (λ (r : Reading). bodyLen r ≤ 128) (λ p q. length-small (h / 1 % 4) (omega arith)) (λ g. omega arith)
 
 -- the fields of a good byte
 pub fields-of : (b id ep n : ℕ) → headerAt b ≡ good id ep n → (inField frameId b ≡ id) × (inField endpoint b ≡ ep)

@@ -13,7 +13,8 @@ use Rattle.framing.specs.Header.{good, headerAt, bodyLen}
 use Rattle.head.specs.State.{idle}
 use Rattle.head.specs.Machine.{withByte, gathered, processed, step}
 use Rattle.head.specs.Theorems.{gatheredOn, gatheredAll}
-use Rattle.head.proofs.Ranges.{body-small, length-some}
+use Rattle.framing.proofs.Headers.{body-small}
+use Rattle.head.proofs.Ranges.{length-some}
 use Rattle.head.specs.declared.Incoming.{Incoming}
 use Rattle.head.specs.declared.State.{State}
 use Rattle.head.specs.declared.Step.the-variants.{More, Whole}

@@ -7,7 +7,7 @@ use lib.Dec.{eqb, leb}
 use borrow.Author.Tests.{eqb-true, ltb-true, leb-true}
 use Rattle.endian.proofs.Cases.{impossible}
 use Rattle.framing.specs.Header.{Reading, good, headerAt, lengthOf, bodyLen}
-use Rattle.framing.proofs.Headers.{by-bits}
+use Rattle.framing.proofs.Headers.{by-bits, body-small}
 use Rattle.protocol.specs.Commands.{lengthOk, blocksFor, placeOf, countIn}
 use Rattle.head.specs.State.{incomingOk, loadingOk, progressIn, progressOk, inRange}
 use Rattle.head.specs.Machine.{actionIn, actionWaiting}
@@ -27,18 +27,7 @@ pub by-test : {A : Type 0} (P : A → Type 0) (t : Bool) (x y : A) → (t ≡ tr
 by-test P true x y f g = f refl
 by-test P false x y f g = g refl
 
--- a body has at most 128 bytes
-length-small : (c : ℕ) → c < 4 → lengthOf c ≤ 128
-length-small zero h = omega arith
-length-small (suc zero) h = omega arith
-length-small (suc (suc zero)) h = omega arith
-length-small (suc (suc (suc zero))) h = omega arith
-length-small (suc (suc (suc (suc c)))) h = absurd (omega arith)
-
-pub body-small : (h : ℕ) → bodyLen (headerAt h) ≤ 128
-body-small h = by-bits h (λ (r : Reading). bodyLen r ≤ 128) (λ p q. length-small (h / 1 % 4) (omega arith)) (λ g. omega arith)
-
--- and at least one
+-- a body has at least one byte
 some-length : (c : ℕ) → c < 4 → 1 ≤ lengthOf c
 some-length zero h = omega arith
 some-length (suc zero) h = omega arith

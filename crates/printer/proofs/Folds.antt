@@ -6,38 +6,37 @@ use mathlib.Core.Path.{_≡_, refl}
 use mathlib.Core.List.{List, [], _∷_, append-nil}
 use lib.Dec.{eqb, ltb}
 use lib.ListN.{length, take, drop, length-take, length-drop, drop-of-length-le}
-use lib.Seq.{take-append-seam, take-all}
+use lib.Seq.{take-all}
 use borrow.Author.Tests.{ne-eqb, lt-ltb, le-ltb, ltb-true, ltb-false}
 use Rattle.head.specs.Answers.{Outcome}
-use Rattle.printer.specs.Lines.{waitingLine, errorLine, textOf}
+use Rattle.text.proofs.Proved.{texts}
+use Rattle.printer.specs.Lines.{waitingLine, errorLine}
 use Rattle.printer.specs.Output.{afterBegin, afterReceive, callText, outputFrom, output}
 use Rattle.printer.specs.Turns.{turnOf, opening, loop, turns}
+use Rattle.printer.proofs.Lengths.{Short, waiting-short, error-short, call-short, begin-short, receive-short}
 
--- what is written of a text is its lines
-lines-of : (x : List ℕ) → take (textOf x .len) (textOf x .bytes) ≡ x
-unfolding textOf
-lines-of x = take-append-seam x _
-
-loop-is : (bytes : List ℕ) (o : Outcome) (n : ℕ) → n + length bytes < 2 ^ 64 → loop (turnOf n o) (o .ram) (296 + n) bytes ≡ outputFrom o n bytes
-loop-is [] o n h = rw (lines-of (callText o), lines-of (waitingLine n))
-loop-is (b ∷ bytes) o n h =
+loop-is : (bytes : List ℕ) (o : Outcome) (n : ℕ) → Short o → n + length bytes < 2 ^ 64
+    → loop (turnOf n o) (o .ram) (296 + n) bytes ≡ outputFrom o n bytes
+loop-is [] o n s h = rw (texts .written (callText o) (call-short o s), texts .written (waitingLine n) (waiting-short n))
+loop-is (b ∷ bytes) o n s h =
     let e : eqb n (2 ^ 64 - 1) ≡ false = ne-eqb n (2 ^ 64 - 1) (λ z. omega arith) in
     let a : 296 + n + 1 ≡ 296 + (n + 1) = omega arith in
     let l : n + 1 + length bytes < 2 ^ 64 = omega arith in
-    rw (lines-of (callText o), e, a, loop-is bytes (afterReceive (o .state) (o .uds) (o .ram) b) (n + 1) l)
+    let next = loop-is bytes (afterReceive (o .state) (o .uds) (o .ram) b) (n + 1) (receive-short (o .state) (o .uds) (o .ram) b) l in
+    rw (texts .written (callText o) (call-short o s), e, a, next)
 
 short : (input : List ℕ) (m : ℕ) → length input < 296 → turns input m ≡ output input m
 unfolding output opening
 short input m h =
     let t : take 296 input ≡ input = take-all 296 input (omega arith) in
     let d : drop 296 input ≡ [] = drop-of-length-le input {i = 296} (omega arith) in
-    rw (t, d, lt-ltb (length input) 296 h, lines-of (errorLine 1), append-nil)
+    rw (t, d, lt-ltb (length input) 296 h, texts .written (errorLine 1) (error-short 1), append-nil)
 
 long : (input : List ℕ) (m : ℕ) → 296 ≤ length input → length input < 2 ^ 64 → turns input m ≡ output input m
 unfolding output opening afterBegin
 long input m h l =
     let n : length (take 296 input) ≡ 296 = rw length-take (omega arith) in
-    rw (n, append-nil, le-ltb (length input) 296 h) (loop-is (drop 296 input) (afterBegin (take 296 input) m) 0 (rw length-drop (omega arith)))
+    rw (n, append-nil, le-ltb (length input) 296 h) (loop-is (drop 296 input) (afterBegin (take 296 input) m) 0 (begin-short (take 296 input) m) (rw length-drop (omega arith)))
 
 pub folds : (input : List ℕ) (m : ℕ) → length input < 2 ^ 64 → turns input m ≡ output input m
 folds input m l = go (ltb (length input) 296) refl

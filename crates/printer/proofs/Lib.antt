@@ -1,5 +1,5 @@
 pub mod Texts
-pub mod Decimals
 pub mod Outcomes
+pub mod Lengths
 pub mod Folds
 pub mod Proved

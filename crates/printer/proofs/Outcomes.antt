@@ -10,10 +10,11 @@ use Rattle.head.specs.Machine.{plain}
 use Rattle.head.specs.declared.Begun.{Begun}
 use Rattle.head.specs.Answers.{Outcome, reportOf, outcome}
 use Rattle.head.specs.declared.Received.{Received}
-use Rattle.printer.specs.Lines.{endLine, textOf}
+use Rattle.text.specs.Text.{textOf}
+use Rattle.text.specs.declared.Text.{Text}
+use Rattle.printer.specs.Lines.{endLine}
 use Rattle.printer.specs.Output.{wordsIn, afterBegin, replyText, isOver}
 use Rattle.printer.specs.Turns.{turnOf, beginTurn}
-use Rattle.printer.specs.declared.lines.Text.{Text}
 use Rattle.printer.specs.declared.turns.Turn.{Turn}
 
 pub turn-as : (r : Received) (room ram words : List ℕ) (o : Outcome) (n : ℕ) (text : Text) (over : Bool) → outcome r room ram words ≡ o

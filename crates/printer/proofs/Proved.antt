@@ -1,9 +1,5 @@
 -- The theorem of specs/Theorems.antt: the turns fold, and the examples compute.
-use Prim.Native.Nat.{ℕ, _*_}
-use native.Mathlib.Omega.{arith}
-use mathlib.Core.Path.{_≡_, refl}
-use mathlib.Core.List.{List, [], _∷_}
-use lib.ListN.{length}
+use mathlib.Core.Path.{refl}
 use Rattle.rfc7693.specs.Rfc7693.{rotr, words, iv, sigma, added, xorRotated, G, workVector, round, rounds, F, input, blockAt, blockCount, leading, compressions, compressed, initial, blake2s}
 use Rattle.endian.specs.Endian.{word, firstBytes}
 use Rattle.framing.specs.Header.{headerAt, headerByte}
@@ -14,14 +10,10 @@ use Rattle.protocol.specs.Replies.{replyHeader, putIn, nameReply, udiReply, loa
 use Rattle.head.specs.State.{inRange, ended}
 use Rattle.head.specs.Begin.{beginning}
 use Rattle.head.specs.Machine.{gathered, loadAnswer, afterLoad, starting, finishedWith, actedBlock, acted, refusal, processed, step}
-use Rattle.printer.specs.Lines.{hexOf, decimalOf}
+use Rattle.text.specs.Text.{decimalOf}
 use Rattle.printer.specs.Output.{afterBegin, afterReceive, output}
 use Rattle.printer.specs.Theorems.{Printer}
 use Rattle.printer.proofs.Folds.{folds}
-
-two-digits : (s : List ℕ) → length (hexOf s) ≡ 2 * length s
-two-digits [] = refl
-two-digits (b ∷ s) = let e = two-digits s in omega arith
 
 pub printer : Printer
 unfolding output decimalOf afterBegin afterReceive beginning step refusal processed gathered acted inRange ended putIn recordAt word headerAt nameReply udiReply replyHeader headerByte loadIn loadAnswer loadReply afterLoad actedBlock finishedWith starting digestReply cdiString cdiOf rotr words firstBytes iv sigma added xorRotated G workVector round rounds F input blockAt blockCount leading compressions compressed initial blake2s
@@ -32,8 +24,4 @@ printer = record {
   stop-at-begin = refl;
   stop-22 = refl;
   short = refl;
-  two = two-digits;
-  hex = refl;
-  decimal = (refl, refl, refl);
-  letters = refl;
 }

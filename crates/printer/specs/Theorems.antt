@@ -1,10 +1,10 @@
 -- What is proved about the output, besides the promises. The proof is `printer` in proofs/Proved.antt.
-use Prim.Native.Nat.{ℕ, _+_, _*_, _^_, _<_}
+use Prim.Native.Nat.{ℕ, _+_, _^_, _<_}
 use mathlib.Core.Path.{_≡_}
 use mathlib.Core.List.{List, [], _∷_, _++_}
 use lib.ListN.{length, replicate}
 use Rattle.endian.specs.Lists.{each, padded, zeros}
-use Rattle.printer.specs.Lines.{ascii, hexOf, decimalOf}
+use Rattle.text.specs.Text.{ascii}
 use Rattle.printer.specs.Output.{Output, output}
 use Rattle.printer.specs.Turns.{turns}
 
@@ -46,9 +46,3 @@ pub record Printer : Type 0 where
   pub stop-22 : output (front ++ 0x90 ∷ 0x10 ∷ 0x01 ∷ []) 32768 ≡ gives (ascii "F 22\n") 297
   -- 295 bytes
   pub short : output (zeros 295) 32768 ≡ gives (ascii "E 1\n") 295
-  -- a byte has two digits: 33 bytes have 66
-  pub two : (s : List ℕ) → length (hexOf s) ≡ 2 * length s
-  -- digits of bytes and of numbers; `ascii` as numbers
-  pub hex : hexOf (0x09 ∷ 0xaf ∷ []) ≡ ascii "09af"
-  pub decimal : (decimalOf 0 ≡ ascii "0") × (decimalOf 131072 ≡ ascii "131072") × (decimalOf 18446744073709551615 ≡ ascii "18446744073709551615")
-  pub letters : ascii "09afSW \n" ≡ 48 ∷ 57 ∷ 97 ∷ 102 ∷ 83 ∷ 87 ∷ 32 ∷ 10 ∷ []

@@ -7,7 +7,8 @@ use lib.Dec.{eqb, ltb}
 use lib.ListN.{length, take, drop}
 use Rattle.endian.specs.Lists.{zeros, padded}
 use Rattle.head.specs.Answers.{Outcome}
-use Rattle.printer.specs.Lines.{waitingLine, errorLine, textOf}
+use Rattle.text.specs.Text.{textOf}
+use Rattle.printer.specs.Lines.{waitingLine, errorLine}
 use Rattle.printer.specs.Output.{afterBegin, afterReceive, callText, isOver, Output, behind}
 use Rattle.printer.specs.declared.turns.Session.{Session}
 use Rattle.printer.specs.declared.turns.Next.{Next}

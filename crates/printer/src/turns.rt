@@ -1,16 +1,15 @@
 // A session from byte to byte, and what is printed of it.
 ghost use mathlib.Core.Path.{_≡_};
-ghost use Prim.Native.Nat.{_≤_};
 ghost use Rattle.head.specs.Answers.{reportOf};
-ghost use Rattle.printer.specs.Lines.{textOf};
+ghost use Rattle.text.specs.Text.{textOf};
 ghost use Rattle.printer.specs.Output.{replyText, isOver};
 ghost use Rattle.printer.specs.Turns.{beginTurn, opening, turned, ramAfter, waited};
 ghost use Rattle.printer.specs.declared.turns.Next.the-variants as next;
 use super::input;
 use super::lines;
-use super::lines::Text;
 use loader::Answer;
 use loader::State;
+use text::Text;
 
 // A head between two bytes, with its device secret.
 pub struct Session {
@@ -43,7 +42,7 @@ pub fn open(front: [u8; 296], got: usize, ram_len: usize) -> Turn
         let session = t.session;
         return Turn {
             session,
-            text: lines::numbered(lines::empty(), b'E', 1),
+            text: lines::numbered(text::empty(), b'E', 1),
             over: true,
         };
     }
@@ -64,13 +63,13 @@ fn begin(front: [u8; 296], ram_len: usize) -> Turn
             words,
             received: 0,
         },
-        text: lines::end_line(lines::empty(), answer, [0; 32]),
+        text: lines::end_line(text::empty(), answer, [0; 32]),
         over: is_over(answer),
     }
 }
 
-// Every other turn, with the RAM that the turn before left. Of a session from `open`, a byte is refused only where RAM has another length or
-// the session is over; it is then printed as `E` and the number.
+// Every other turn, with the RAM that the turn before left. Of a session from `open`, a byte is refused only where RAM has another length
+// or the session is over; it is then printed as `E` and the number.
 pub fn advance(s: Session, next: Next, ram: &mut [u8]) -> Turn
     ensures turn { λ r. ⌜ r ≡ turned s next (now (ram .entry)) ⌝ }
     ensures ram { λ r. ⌜ now (ram .exit) ≡ ramAfter s next (now (ram .entry)) ⌝ }
@@ -87,7 +86,7 @@ fn wait(s: Session) -> Turn
 {
     Turn {
         session: s,
-        text: lines::numbered(lines::empty(), b'W', s.received),
+        text: lines::numbered(text::empty(), b'W', s.received),
         over: true,
     }
 }
@@ -120,11 +119,10 @@ fn receive(s: Session, byte: u8, ram: &mut [u8]) -> Turn
 
 // The line of a reply of n bytes; none if n is 0.
 fn reply(room: [u8; 129], n: usize) -> Text
-    ensures len { λ r. ⌜ r .len ≤ 261 ⌝ }
-    ensures text { λ r. ⌜ r ≡ textOf (replyText room n) ⌝ }
+    ensures { λ r. ⌜ r ≡ textOf (replyText room n) ⌝ }
 {
     if n == 0 {
-        return lines::empty();
+        return text::empty();
     }
     lines::reply_line(room, n)
 }

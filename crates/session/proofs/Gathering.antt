@@ -9,11 +9,11 @@ use lib.ListN.{length, set, drop, length-append}
 use borrow.Author.Tests.{ne-eqb, ltb-true, ltb-false}
 use Rattle.endian.proofs.Cases.{impossible}
 use Rattle.framing.specs.Header.{Reading, good, stop, headerAt, inField, endpoint, bodyLen}
-use Rattle.framing.proofs.Headers.{by-bits, fields-of}
+use Rattle.framing.proofs.Headers.{by-bits, body-small, fields-of}
 use Rattle.endian.specs.Lists.{zeros}
 use Rattle.head.specs.State.{idle}
 use Rattle.head.specs.Machine.{withByte, gathered}
-use Rattle.head.proofs.Ranges.{body-small, length-some}
+use Rattle.head.proofs.Ranges.{length-some}
 use Rattle.session.specs.Reading.{Good, forFirmware}
 use Rattle.head.specs.declared.Incoming.{Incoming}
 use Rattle.head.specs.declared.Step.the-variants.{More, Whole, Bad}

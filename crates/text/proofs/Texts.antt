@@ -13,24 +13,40 @@ use Rattle.text.specs.Text.{hexOf, withByte, added, textOf}
 use Rattle.text.specs.declared.Text.{Text}
 
 pub parts : (t : Text) (a b : List ℕ) → added (added t a) b ≡ added t (a ++ b)
+unfolding added
 parts t [] b = refl
 parts t (x ∷ a) b = parts (withByte t x) a b
+
+pub nothing : (t : Text) → added t [] ≡ t
+unfolding added
+nothing t = refl
+
+-- one part, then another
+pub then : (t s r : Text) (a b : List ℕ) → s ≡ added t a → r ≡ added s b → r ≡ added t (a ++ b)
+then t s r a b e f = f ∙ ap (λ (x : Text). added x b) e ∙ parts t a b
 
 -- a text, and a part behind it
 pub behind : (a b : List ℕ) → added (textOf a) b ≡ textOf (a ++ b)
 unfolding textOf
 behind a b = parts _ a b
 
+-- a part in an empty text
+pub from-empty : (t r : Text) (a : List ℕ) → t ≡ textOf [] → r ≡ added t a → r ≡ textOf a
+from-empty t r a e f = f ∙ ap (λ (x : Text). added x a) e ∙ behind [] a
+
 -- the i-th byte of s before those that are left
 pub next : (t : Text) (s : List ℕ) (i : ℕ) → i < length s → added (added t (getD s i 0 ∷ [])) (drop (i + 1) s) ≡ added t (drop i s)
+unfolding added
 next t s i h = rw (add-one, drop-cons s i 0 h)
 
 pub next-hex : (t : Text) (s : List ℕ) (i : ℕ) → i < length s
     → added (added t (hexOf (getD s i 0 ∷ []))) (hexOf (drop (i + 1) s)) ≡ added t (hexOf (drop i s))
+unfolding added
 next-hex t s i h = rw (add-one, drop-cons s i 0 h)
 
 -- one of those that are left
 pub one-of : (t : Text) (b n : ℕ) → 0 < n → added (added t (b ∷ [])) (replicate (n - 1) b) ≡ added t (replicate n b)
+unfolding added
 one-of t b zero h = absurd (not-suc-le-zero h)
 one-of t b (suc n) h = let e : suc n - 1 ≡ n = omega arith in rw e
 
@@ -51,6 +67,7 @@ one-more s b h =
     rw (lt-ltb (length s) 512 h, n, d, e, seam s b (511 - length s))
 
 grown : (a s : List ℕ) → length a + length s ≤ 512 → added (fitted a) s ≡ fitted (a ++ s)
+unfolding added
 grown a [] h = ap fitted (sym (append-nil a))
 grown a (b ∷ s) h =
     let l : length (a ++ b ∷ []) ≡ length a + 1 = length-append a (b ∷ []) in
@@ -59,5 +76,5 @@ grown a (b ∷ s) h =
     ∙ ap fitted (append-assoc a (b ∷ []) s)
 
 pub exact : (s : List ℕ) → length s ≤ 512 → textOf s ≡ fitted s
-unfolding textOf
+unfolding textOf added
 exact s h = grown [] s (omega arith)

@@ -38,7 +38,7 @@ decimalOf n = decimalIn 20 n
 unfoldable pub withByte : Text → ℕ → Text
 withByte t b = cond (ltb (t .len) 512) (record { len = t .len + 1; bytes = set (t .bytes) (t .len) b }) t
 
-abbrev pub added : Text → List ℕ → Text
+unfoldable pub added : Text → List ℕ → Text
 added t [] = t
 added t (b ∷ s) = added (withByte t b) s
 

@@ -1,10 +1,12 @@
 -- What a reply that is taken says of its frame.
-use Prim.Native.Nat.{ℕ}
+use Prim.Native.Nat.{ℕ, _≤_}
 use mathlib.Core.Path.{_≡_, refl}
-use mathlib.Core.Bool.{Bool, true, false, cond}
+use mathlib.Core.Bool.{Bool, true, false, cond, _&&_}
 use mathlib.Core.List.{List}
-use lib.Dec.{eqb}
-use borrow.Author.Tests.{eqb-true}
+use lib.Dec.{eqb, leb}
+use borrow.Author.Tests.{eqb-true, leb-true}
+use Rattle.protocol.specs.Commands.{lengthOk}
+use Rattle.endian.proofs.Cases.{impossible}
 use Rattle.endian.specs.Lists.{same}
 use Rattle.client.specs.Frames.{refusal}
 use Rattle.client.specs.Replies.{takenAs, expectedReply, refusedWith, taking}
@@ -31,3 +33,11 @@ last-turn job x d = go (same d (job .digest))
     go : (t : Bool) → onward job x (cond t Loaded (Failed OtherDigest)) ≡ turnOf x (cond t Loaded (Failed OtherDigest))
     go true = refl
     go false = refl
+
+pub length-ok-bounds : (n : ℕ) → lengthOk n ≡ true → (1 ≤ n) × (n ≤ 131072)
+length-ok-bounds n = go (leb 1 n) (leb n 131072) refl refl
+  where
+    go : (a b : Bool) → leb 1 n ≡ a → leb n 131072 ≡ b → a && b ≡ true → (1 ≤ n) × (n ≤ 131072)
+    go true true p q e = (leb-true 1 n p, leb-true n 131072 q)
+    go true false p q e = impossible cc
+    go false b p q e = impossible cc

@@ -1,1 +1,3 @@
 pub mod Upload
+pub mod Messages
+pub mod Theorems

@@ -1,9 +1,14 @@
 // The laptop's half of a load, event by event: what `./load` does next, and what it says. Nothing here reads or writes; the program `load`
 // does. What is sent and what is taken is `client`'s; in specs/, Upload says when, Messages in which words.
+mod messages;
 mod steps;
 
 ghost use mathlib.Core.Path.{_≡_};
 ghost use Rattle.upload.specs.Upload.{isOver, exitNumber};
+pub use messages::loaded;
+pub use messages::message;
+pub use messages::progress;
+pub use messages::started;
 pub use steps::advance;
 pub use steps::open;
 
@@ -47,7 +52,7 @@ pub enum Failure {
     Unreadable,
     ProgramLength,
     SecretLength,
-    // A device that cannot be opened, or is no serial line.
+    // A device that is no serial line.
     Device,
     NoAnswer,
     LineClosed,

@@ -22,6 +22,7 @@ loop-again c =
     rw (c .put .ensures) (one-of (p .text) b (p .left) (search needs) ∙ p .inv)
 
 returns : tie.Need-returns Inv-loop μ-loop
+unfolding added
 returns c =
     let p = c .before .loop in
     let e : p .left ≡ 0 = omega arith in

@@ -1,12 +1,12 @@
 -- Each case of the answer has its line.
 use mathlib.Core.Path.{sym}
-use Rattle.printer.proofs.Texts.{adds-none}
+use Rattle.text.proofs.Texts.{nothing}
 use borrow.Author.Needs.{needs}
 use Rattle.printer.proofs.lines.end_line.Statement.{statement}
 use Rattle.printer.proofs.lines.end_line.Tie as tie
 
 returns : tie.Need-returns
-returns c = rw (c .enum-told .given .1) (adds-none _)
+returns c = rw (c .enum-told .given .1, nothing)
 
 returns-2 : tie.Need-returns-2
 returns-2 c = rw (c .before .before .before .answer .given .1, sym (c .before .refusal-number .ensures)) (c .numbered .ensures)

@@ -2,7 +2,9 @@
 use mathlib.Core.List.{[]}
 use borrow.Author.Needs.{needs}
 use borrow.Author.Tests.{lt-ltb, le-ltb}
+use Rattle.printer.specs.Lines.{errorLine}
 use Rattle.printer.specs.Turns.{opening}
+use Rattle.printer.proofs.Texts.{with-line}
 use Rattle.printer.proofs.turns.open.Statement.{statement}
 use Rattle.printer.proofs.turns.open.Tie as tie
 
@@ -10,7 +12,7 @@ returns : tie.Need-returns
 unfolding opening
 returns c =
     let i = c .before .before .before in
-    rw (lt-ltb _ 296 (i .if1 .taken), c .numbered .ensures [] (c .before .empty .ensures .1), i .before .begin .ensures)
+    rw (lt-ltb _ 296 (i .if1 .taken), with-line _ _ [] (errorLine 1) (c .before .empty .ensures) (c .numbered .ensures), i .before .begin .ensures)
 
 returns-2 : tie.Need-returns-2
 unfolding opening

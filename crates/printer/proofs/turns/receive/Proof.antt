@@ -4,6 +4,7 @@ use mathlib.Core.Path.{ap}
 use Rattle.head.specs.Answers.{Outcome}
 use Rattle.printer.specs.Output.{afterReceive}
 use Rattle.printer.proofs.Outcomes.{turn-as}
+use Rattle.printer.proofs.Texts.{with-line}
 use borrow.Author.Needs.{needs}
 use borrow.Author.Tests.{eq-eqb, ne-eqb}
 use Rattle.printer.proofs.turns.receive.Statement.{statement}
@@ -25,7 +26,7 @@ unfolding afterReceive
 returns-2 c =
     let k = received c in
     let n = ne-eqb _ (2 ^ 64 - 1) (counts k .if1 .left) in
-    let e = c .before .end-line .ensures _ (c .before .before .reply .ensures .1) in
+    let e = with-line _ _ _ _ (c .before .before .reply .ensures) (c .before .end-line .ensures) in
     (rw n (turn-as (k .receive .result) _ _ _ _ _ _ _ (k .receive .ensures) e (c .is-over .ensures)), rw n (ap (λ (o : Outcome). o .ram) (k .receive .ensures)))
 
 pub receive-spec : {M : Type 1} → statement M

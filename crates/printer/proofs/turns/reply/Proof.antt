@@ -5,10 +5,10 @@ use Rattle.printer.proofs.turns.reply.Statement.{statement}
 use Rattle.printer.proofs.turns.reply.Tie as tie
 
 returns : tie.Need-returns
-returns c = (search needs, rw (eq-eqb _ 0 (c .before .if1 .taken)) (c .empty .ensures .1))
+returns c = rw (eq-eqb _ 0 (c .before .if1 .taken)) (c .empty .ensures)
 
 returns-2 : tie.Need-returns-2
-returns-2 c = (search needs, rw (ne-eqb _ 0 (c .before .if1 .left)) (c .reply-line .ensures .1))
+returns-2 c = rw (ne-eqb _ 0 (c .before .if1 .left)) (c .reply-line .ensures)
 
 pub reply-spec : {M : Type 1} → statement M
 reply-spec =

@@ -1,0 +1,89 @@
+-- What is proved about a load besides the promises. The proof is `uploads` in proofs/Proved.antt.
+use Prim.Native.Nat.{ℕ, _+_, _<_, _≤_, max}
+use mathlib.Core.Path.{_≡_}
+use mathlib.Core.Logic.{_↔_}
+use mathlib.Core.Bool.{true}
+use mathlib.Core.List.{List, [], _∷_, _++_}
+use lib.ListN.{length, getD, replicate}
+use Rattle.endian.specs.Lists.{zeros}
+use Rattle.framing.specs.Header.{headerAt, bodyLen}
+use Rattle.protocol.specs.Commands.{lengthOk, placeOf}
+use Rattle.client.specs.Frames.{refusal}
+use Rattle.client.specs.Replies.{takingAs, taking}
+use Rattle.text.specs.Text.{ascii}
+use Rattle.upload.specs.Upload.{isOver, turnOf, sentFrame, opening, afterReply, turned, runs, mostEvents}
+use Rattle.upload.specs.Messages.{messageOf, loadedLine, progressLine}
+use Rattle.upload.specs.declared.Job.{Job}
+use Rattle.upload.specs.declared.Exchange.{Exchange}
+use Rattle.upload.specs.declared.Event.{Event}
+use Rattle.upload.specs.declared.Event.the-variants.{Byte, Silence, Closed}
+use Rattle.upload.specs.declared.Failure.{Failure}
+use Rattle.upload.specs.declared.Failure.the-variants.{NoAnswer, LineClosed, UnexpectedReply, Refused, OtherDigest}
+use Rattle.upload.specs.declared.Next.the-variants.{Send, Loaded, Failed}
+
+-- the events of bytes, with no silence between them
+abbrev pub bytesOf : List ℕ → List Event
+bytesOf [] = []
+bytesOf (b ∷ r) = Byte b ∷ bytesOf r
+
+-- these bytes in this order, with so many ticks of silence before or between them
+pub data Heard : List ℕ → ℕ → List Event → Type 0 where
+  nothing : Heard [] 0 []
+  byte : (b : ℕ) (r : List ℕ) (n : ℕ) (es : List Event) → Heard r n es → Heard (b ∷ r) n (Byte b ∷ es)
+  silence : (b : ℕ) (r : List ℕ) (n : ℕ) (es : List Event) → Heard (b ∷ r) n es → Heard (b ∷ r) (n + 1) (Silence ∷ es)
+
+-- the events of a reply to frame k: one whole frame, in time, which the client takes with status 0 and this digest
+pub record Answer (job : Job) (k : ℕ) (digest : List ℕ) (es : List Event) : Type 0 where
+  pub reply : List ℕ
+  pub silences : ℕ
+  pub heard : Heard reply silences es
+  pub whole : length reply ≡ 1 + bodyLen (headerAt (getD reply 0 0))
+  pub in-time : silences < max 1 (job .wait)
+  pub taken : taking (job .len) (job .id) k reply ≡ takingAs 0 0 digest
+
+-- the events, from frame k on, of a load that succeeds: an answer to each frame, the last with the program's digest; what comes then is not looked at
+pub data Loads (job : Job) : ℕ → List Event → Type 0 where
+  last : (k : ℕ) (es rest : List Event) → job .len ≤ placeOf k → Answer job k (job .digest) es → Loads job k (es ++ rest)
+  more : (k : ℕ) (digest : List ℕ) (es rest : List Event) → placeOf k < job .len → Answer job k digest es → Loads job (k + 1) rest → Loads job k (es ++ rest)
+
+-- a program of one byte with frame ID 1 and a wait of two ticks, and its digest as 32 times 0xdd
+abbrev pub small : Job
+small = record { len = 1; id = 1; digest = replicate 32 0xdd; wait = 2 }
+
+-- its replies: to the load, and to the block
+abbrev pub loadReply : List ℕ
+loadReply = 0x31 ∷ 0x04 ∷ zeros 3
+
+abbrev pub lastReply : List ℕ
+lastReply = 0x33 ∷ 0x07 ∷ 0 ∷ replicate 32 0xdd ++ zeros 94
+
+pub record Uploads : Type 0 where
+  -- no line makes a load run forever: after so many events it is over
+  pub ends : (job : Job) (es : List Event) → mostEvents job ≤ length es → isOver (runs job (opening job) es .next) ≡ true
+  -- it succeeds exactly when each frame is answered so; a digest and a reply have bytes
+  pub loads : (job : Job) → length (job .digest) ≡ 32 → (es : List Event)
+      → (runs job (opening job) es .next ≡ Loaded) ↔ ((refusal (job .len) (job .id) 0 ≡ 0) × Loads job 0 es)
+  -- a frame is sent only if the client makes it, and then nothing has come of its reply
+  pub first : (job : Job) → opening job .next ≡ Send → (opening job .exchange ≡ sentFrame job 0) × (refusal (job .len) (job .id) 0 ≡ 0)
+  pub sends : (job : Job) (x : Exchange) (e : Event) → turned job x e .next ≡ Send
+      → (turned job x e .exchange ≡ sentFrame job (x .k + 1)) × (refusal (job .len) (job .id) (x .k + 1) ≡ 0)
+  -- a whole reply is read to its end
+  pub reads : (job : Job) (k : ℕ) (r : List ℕ) → length r ≡ 1 + bodyLen (headerAt (getD r 0 0))
+      → runs job (turnOf (sentFrame job k) Send) (bytesOf r) .next ≡ afterReply job k (taking (job .len) (job .id) k r)
+  -- literal events: a load with a silence in it, and what makes each failure
+  pub example : (runs small (opening small) (Silence ∷ bytesOf loadReply ++ bytesOf lastReply) .next ≡ Loaded)
+      × (runs small (opening small) (Byte 0x31 ∷ Silence ∷ Silence ∷ []) .next ≡ Failed NoAnswer)
+      × (runs small (opening small) (Byte 0x31 ∷ Closed ∷ []) .next ≡ Failed LineClosed)
+      × (runs small (opening small) (Byte 0x80 ∷ []) .next ≡ Failed UnexpectedReply)
+      × (runs small (opening small) (bytesOf (0x31 ∷ 0x04 ∷ 1 ∷ 0 ∷ 0 ∷ [])) .next ≡ Failed Refused)
+      × (runs small (opening small) (bytesOf loadReply ++ bytesOf (0x33 ∷ 0x07 ∷ 0 ∷ replicate 32 0xde ++ zeros 94)) .next ≡ Failed OtherDigest)
+  -- every message fits a text, and so does every line of progress
+  pub fits : (job : Job) (x : Exchange) (f : Failure) → length (x .reply) ≡ 129 → length (messageOf job x f) ≤ 512
+  pub loaded-fits : (job : Job) → length (job .digest) ≡ 32 → length (loadedLine job) ≤ 512
+  pub progress-fits : (n done seconds : ℕ) → length (progressLine n done seconds) ≤ 512
+  -- literal messages
+  pub silent : messageOf small (sentFrame small 0) NoAnswer
+      ≡ ascii "no answer to frame 0 (the load) in 0.2 s; is the head waiting for a program? has it stopped?"
+  pub other : messageOf small (record { k = 1; got = 5; reply = 0x31 ∷ 0x06 ∷ zeros 127; ticks = 2 }) UnexpectedReply
+      ≡ ascii "the reply to frame 1 (block 1 of 1) is not the expected one (43), its header differs: 3106000000; reset the head and load again"
+  pub half : progressLine 254 1 2 ≡ 13 ∷ ascii "[################................] 1 of 2 blocks, 50%, 63 bytes/s" ++ 27 ∷ ascii "[K"
