@@ -8,6 +8,7 @@ use upload::Turn;
 
 // Where bytes come from the head, and where they go to it.
 pub const INPUT: i32 = 4;
+
 const OUTPUT: i32 = 5;
 
 // Sends frames and reads replies until the load is over.
