@@ -1,22 +1,17 @@
 -- Each answer has its line.
-use mathlib.Core.List.{[]}
-use Rattle.text.specs.Text.{ascii}
-use Rattle.display.proofs.Joined.{then}
-use Rattle.display.specs.Shown.{stopLine}
+use Rattle.text.proofs.Texts.{behind}
 use borrow.Author.Needs.{needs}
 use Rattle.display.proofs.begun.Statement.{statement}
 use Rattle.display.proofs.begun.Tie as tie
 
 returns : tie.Need-returns
-returns c =
-    rw (c .before .before .before .enum-told .given .1)
-    (then [] (ascii "waiting\n") (c .before .before .empty .ensures) (c .put-all .ensures))
+returns c = rw (c .before .before .before .enum-told .given .1, c .put-all .ensures, c .before .before .empty .ensures, behind)
 
 returns-2 : tie.Need-returns-2
 returns-2 c = rw (c .before .before .answer .given .1) (c .refusal-line .ensures)
 
 returns-3 : tie.Need-returns-3
-returns-3 c = rw (c .before .before .before .answer2 .given .1) (then [] (stopLine _) (c .before .empty2 .ensures) (c .stop-line .ensures))
+returns-3 c = rw (c .before .before .before .answer2 .given .1, c .stop-line .ensures, c .before .empty2 .ensures, behind)
 
 returns-4 : tie.Need-returns-4
 returns-4 c = rw (c .before .enum-told2 .given .1) (c .empty3 .ensures)

@@ -1,7 +1,5 @@
 -- The parts, one behind the other.
-use mathlib.Core.List.{[]}
-use Rattle.text.specs.Text.{ascii, decimalOf}
-use Rattle.display.proofs.Joined.{then}
+use Rattle.text.proofs.Texts.{behind}
 use borrow.Author.Needs.{needs}
 use Rattle.display.proofs.block_text.Statement.{statement}
 use Rattle.display.proofs.block_text.Tie as tie
@@ -9,10 +7,9 @@ use Rattle.display.proofs.block_text.Tie as tie
 returns : tie.Need-returns
 returns c =
     let d = c .before .before .before in
-    let a = c .before .before .before .before .before .before .before .args in
-    let e = then [] (ascii "\rblock ") (d .before .before .before .empty .ensures) (d .before .put-all .ensures) in
-    let f = then _ (ascii " of ") (then _ (decimalOf (a .k)) e (d .put-decimal .ensures)) (c .before .put-all2 .ensures) in
-    then _ (decimalOf (a .n)) f (c .put-decimal2 .ensures)
+    let e = d .before .before .before .empty .ensures in
+    let f = c .before .put-all2 .ensures in
+    rw (c .put-decimal2 .ensures, f, d .put-decimal .ensures, d .before .put-all .ensures, e, behind, behind, behind, behind)
 
 pub block-text-spec : {M : Type 1} → statement M
 block-text-spec =

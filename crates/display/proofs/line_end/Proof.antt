@@ -1,7 +1,5 @@
 -- By whether a block has come.
-use mathlib.Core.List.{[]}
-use Rattle.text.specs.Text.{ascii}
-use Rattle.display.proofs.Joined.{then}
+use Rattle.text.proofs.Texts.{behind}
 use borrow.Author.Tests.{eq-eqb, ne-eqb}
 use borrow.Author.Needs.{needs}
 use Rattle.display.proofs.line_end.Statement.{statement}
@@ -11,7 +9,7 @@ returns : tie.Need-returns
 returns c = rw (eq-eqb _ 0 (c .before .if1 .taken)) (c .empty .ensures)
 
 returns-2 : tie.Need-returns-2
-returns-2 c = rw (ne-eqb _ 0 (c .before .before .if1 .left)) (then [] (ascii "\n") (c .before .empty2 .ensures) (c .put .ensures))
+returns-2 c = rw (ne-eqb _ 0 (c .before .before .if1 .left), c .put .ensures, c .before .empty2 .ensures, behind)
 
 pub line-end-spec : {M : Type 1} → statement M
 line-end-spec =

@@ -1,7 +1,5 @@
 -- The parts, one behind the other.
-use mathlib.Core.List.{[]}
-use Rattle.text.specs.Text.{ascii, decimalOf}
-use Rattle.display.proofs.Joined.{then}
+use Rattle.text.proofs.Texts.{behind}
 use borrow.Author.Needs.{needs}
 use Rattle.display.proofs.loading_line.Statement.{statement}
 use Rattle.display.proofs.loading_line.Tie as tie
@@ -9,8 +7,8 @@ use Rattle.display.proofs.loading_line.Tie as tie
 returns : tie.Need-returns
 returns c =
     let d = c .before .before in
-    let e = then [] (ascii "loading ") (d .before .before .before .empty .ensures) (d .before .put-all .ensures) in
-    then _ (ascii " bytes\n") (then _ (decimalOf (d .before .before .before .before .args .size)) e (d .put-decimal .ensures)) (c .put-all2 .ensures)
+    let e = d .before .before .before .empty .ensures in
+    rw (c .put-all2 .ensures, d .put-decimal .ensures, d .before .put-all .ensures, e, behind, behind, behind)
 
 pub loading-line-spec : {M : Type 1} → statement M
 loading-line-spec =

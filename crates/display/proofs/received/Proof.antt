@@ -1,6 +1,5 @@
 -- Each answer has its text.
-use Rattle.display.proofs.Joined.{then}
-use Rattle.display.specs.Shown.{stopLine, startLine}
+use Rattle.text.proofs.Texts.{behind}
 use borrow.Author.Needs.{needs}
 use Rattle.display.proofs.received.Statement.{statement}
 use Rattle.display.proofs.received.Tie as tie
@@ -12,14 +11,10 @@ returns-2 : tie.Need-returns-2
 returns-2 c = rw (c .before .before .answer .given .1) (c .refusal-line .ensures)
 
 returns-3 : tie.Need-returns-3
-returns-3 c =
-    rw (c .before .before .before .answer2 .given .1)
-    (then _ (stopLine _) (c .before .before-stop .ensures) (c .stop-line .ensures))
+returns-3 c = rw (c .before .before .before .answer2 .given .1, c .stop-line .ensures, c .before .before-stop .ensures, behind)
 
 returns-4 : tie.Need-returns-4
-returns-4 c =
-    rw (c .before .before .before .answer3 .given .1)
-    (then _ (startLine _ _) (c .before .all-blocks .ensures) (c .start-line .ensures))
+returns-4 c = rw (c .before .before .before .answer3 .given .1, c .start-line .ensures, c .before .all-blocks .ensures, behind)
 
 pub received-spec : {M : Type 1} → statement M
 received-spec =

@@ -1,7 +1,7 @@
--- The five parts.
-use Rattle.text.specs.Text.{ascii, hexOf, decimalOf}
+-- The parts, one behind the other.
+use mathlib.Core.List.{append-assoc}
 use Rattle.display.specs.Shown.{startLine}
-use Rattle.display.proofs.Joined.{five}
+use Rattle.text.proofs.Texts.{parts}
 use borrow.Author.Needs.{needs}
 use Rattle.display.proofs.start_line.Statement.{statement}
 use Rattle.display.proofs.start_line.Tie as tie
@@ -9,11 +9,11 @@ use Rattle.display.proofs.start_line.Tie as tie
 returns : tie.Need-returns
 unfolding startLine
 returns c =
-    let d = c .before .before .before .before .before in
-    let a = c .before .before .before .before .before .before .before .before .args in
-    five (a .t) (ascii "started, ") (decimalOf (a .size)) (ascii " bytes, CDI ") (hexOf (a .t3)) (ascii "\n")
-    (d .before .put-all .ensures) (d .put-decimal .ensures)
-    (c .before .before .before .put-all2 .ensures) (c .before .put-hex .ensures) (c .put .ensures)
+    let p = c .before .before .before in
+    let d = p .before .before in
+    let e = d .before .put-all .ensures in
+    rw (c .put .ensures, c .before .put-hex .ensures, p .put-all2 .ensures, d .put-decimal .ensures, e, parts, parts, parts, parts)
+    (simp append-assoc)
 
 pub start-line-spec : {M : Type 1} → statement M
 start-line-spec =

@@ -1,7 +1,7 @@
--- The five parts.
-use Rattle.text.specs.Text.{ascii, decimalOf}
-use Rattle.display.proofs.Joined.{five}
-use Rattle.display.specs.Shown.{wordsOf, stopLine}
+-- The parts, one behind the other.
+use mathlib.Core.List.{append-assoc}
+use Rattle.display.specs.Shown.{stopLine}
+use Rattle.text.proofs.Texts.{parts}
 use borrow.Author.Needs.{needs}
 use Rattle.display.proofs.stop_line.Statement.{statement}
 use Rattle.display.proofs.stop_line.Tie as tie
@@ -9,15 +9,13 @@ use Rattle.display.proofs.stop_line.Tie as tie
 returns : tie.Need-returns
 unfolding stopLine
 returns c =
-    let d = c .before .before .before .before in
+    let p = c .before .before in
+    let d = p .before .before in
     let n = d .before in
-    let a = c .before .before .before .before .before .before .before .before .args in
-    let e =
-    five (a .t) (ascii "stopped ") (decimalOf (n .stop-number .result)) (ascii ": ") (wordsOf (a .why)) (ascii "\n")
-    (n .before .put-all .ensures) (d .put-decimal .ensures)
-    (c .before .before .put-all2 .ensures) (c .before .put-words .ensures) (c .put .ensures)
-    in
-    rw (n .stop-number .ensures) at e
+    let e = n .before .put-all .ensures in
+    let w = c .before .put-words .ensures in
+    rw (c .put .ensures, w, p .put-all2 .ensures, d .put-decimal .ensures, n .stop-number .ensures, e, parts, parts, parts, parts)
+    (simp append-assoc)
 
 pub stop-line-spec : {M : Type 1} → statement M
 stop-line-spec =
