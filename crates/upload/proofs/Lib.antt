@@ -1,3 +1,4 @@
 pub mod Replies
 pub mod Turns
 pub mod Ends
+pub mod Sends
