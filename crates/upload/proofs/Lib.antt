@@ -2,3 +2,4 @@ pub mod Replies
 pub mod Turns
 pub mod Ends
 pub mod Sends
+pub mod Proved
