@@ -10,7 +10,7 @@ use borrow.Author.Tests.{ltb-false}
 use Rattle.endian.proofs.Cases.{impossible}
 use Rattle.framing.specs.Header.{headerAt, bodyLen}
 use Rattle.framing.proofs.Headers.{body-small}
-use Rattle.protocol.specs.Commands.{blocksFor, placeOf}
+use Rattle.protocol.specs.Commands.{blocksFor}
 use Rattle.upload.specs.Upload.{isOver, opening, turned, runs, mostEvents}
 use Rattle.upload.proofs.Turns.{by-reply, by-event}
 use Rattle.upload.specs.declared.Job.{Job}

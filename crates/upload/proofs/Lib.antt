@@ -2,4 +2,5 @@ pub mod Replies
 pub mod Turns
 pub mod Ends
 pub mod Sends
+pub mod Lengths
 pub mod Proved
