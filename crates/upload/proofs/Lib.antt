@@ -3,4 +3,6 @@ pub mod Turns
 pub mod Ends
 pub mod Sends
 pub mod Lengths
+pub mod Held
+pub mod Answered
 pub mod Proved

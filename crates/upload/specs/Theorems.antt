@@ -60,9 +60,8 @@ lastReply = 0x33 ∷ 0x07 ∷ 0 ∷ replicate 32 0xdd ++ zeros 94
 pub record Uploads : Type 0 where
   -- no line makes a load run forever: after so many events it is over
   pub ends : (job : Job) (es : List Event) → mostEvents job ≤ length es → isOver (runs job (opening job) es .next) ≡ true
-  -- it succeeds exactly when each frame is answered so; a digest and a reply have bytes
-  pub loads : (job : Job) → length (job .digest) ≡ 32 → (es : List Event)
-      → (runs job (opening job) es .next ≡ Loaded) ↔ ((refusal (job .len) (job .id) 0 ≡ 0) × Loads job 0 es)
+  -- it succeeds exactly when each frame is answered so; the client takes no reply to a frame that it refuses
+  pub loads : (job : Job) (es : List Event) → (runs job (opening job) es .next ≡ Loaded) ↔ Loads job 0 es
   -- a frame is sent only if the client makes it, and then nothing has come of its reply
   pub first : (job : Job) → opening job .next ≡ Send → (opening job .exchange ≡ sentFrame job 0) × (refusal (job .len) (job .id) 0 ≡ 0)
   pub sends : (job : Job) (x : Exchange) (e : Event) → turned job x e .next ≡ Send
