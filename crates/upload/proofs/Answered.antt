@@ -1,7 +1,7 @@
 -- A reply is read to its end, and a load that is answered succeeds.
 use Prim.Native.Nat.{ℕ, _+_, _-_, _<_, _≤_, max}
 use native.Mathlib.Omega.{arith}
-use mathlib.Core.Path.{_≡_, refl, sym, ap, _∙_}
+use mathlib.Core.Path.{_≡_, refl, ap, _∙_}
 use mathlib.Core.Bool.{Bool, true, false, cond}
 use mathlib.Core.List.{List, [], _∷_, _++_, append-assoc, append-nil}
 use lib.Dec.{ltb}
@@ -11,14 +11,13 @@ use Rattle.endian.proofs.Same.{same-refl}
 use Rattle.framing.specs.Header.{headerAt, bodyLen}
 use Rattle.framing.proofs.Headers.{body-small}
 use Rattle.protocol.specs.Commands.{placeOf}
-use Rattle.client.specs.Replies.{Taking, takingAs, taking}
+use Rattle.client.specs.Replies.{takingAs, taking}
 use Rattle.upload.specs.Upload.{isOver, turnOf, sentFrame, afterReply, onward, replied, isWhole, received, silent, runs}
 use Rattle.upload.specs.Theorems.{bytesOf, Heard, nothing, byte, silence, Answer, Loads, last, more}
 use Rattle.upload.proofs.Held.{held, bodyOf, came, one-more, whole-is}
 use Rattle.upload.specs.declared.Job.{Job}
 use Rattle.upload.specs.declared.Exchange.{Exchange}
 use Rattle.upload.specs.declared.Event.{Event}
-use Rattle.upload.specs.declared.Event.the-variants.{Byte, Silence}
 use Rattle.upload.specs.declared.Next.{Next}
 use Rattle.upload.specs.declared.Next.the-variants.{Send, Wait, Loaded, Failed}
 use Rattle.upload.specs.declared.Turn.{Turn}

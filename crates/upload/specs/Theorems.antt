@@ -7,7 +7,7 @@ use mathlib.Core.List.{List, [], _∷_, _++_}
 use lib.ListN.{length, getD, replicate}
 use Rattle.endian.specs.Lists.{zeros}
 use Rattle.framing.specs.Header.{headerAt, bodyLen}
-use Rattle.protocol.specs.Commands.{lengthOk, placeOf}
+use Rattle.protocol.specs.Commands.{placeOf}
 use Rattle.client.specs.Frames.{refusal}
 use Rattle.client.specs.Replies.{takingAs, taking}
 use Rattle.text.specs.Text.{ascii}
