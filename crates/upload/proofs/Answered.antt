@@ -31,7 +31,8 @@ module _ (job : Job) (k : ℕ) (r : List ℕ) (t b : ℕ) (h : length r < 129) w
   byte-turn w e =
       rw (le-ltb 128 (length r) (omega arith))
       (ap (λ (x : Exchange). cond (isWhole x) (replied job x) (turnOf x Wait)) (one-more k r t b h)
-      ∙ ap (λ (v : Bool). cond v (replied job (held k (r ++ b ∷ []) t)) (turnOf (held k (r ++ b ∷ []) t) Wait)) (whole-is k (r ++ b ∷ []) t ∙ e))
+      ∙ ap (λ (v : Bool). cond v (replied job (held k (r ++ b ∷ []) t)) (turnOf (held k (r ++ b ∷ []) t) Wait))
+      (whole-is k (r ++ b ∷ []) t ∙ e))
 
   last-byte : length (r ++ b ∷ []) ≡ 1 + bodyOf (r ++ b ∷ []) → received job (held k r t) b ≡ replied job (held k (r ++ b ∷ []) t)
   last-byte w = byte-turn true (lt-ltb (bodyOf (r ++ b ∷ [])) (length (r ++ b ∷ [])) (omega arith))
@@ -46,7 +47,8 @@ tick k r t h = rw (lt-leb t 1 h)
 -- ---- a reply
 
 -- a reply that is not all of a whole one
-part : (r : List ℕ) (b c : ℕ) (s : List ℕ) → length (r ++ b ∷ c ∷ s) ≡ 1 + bodyOf (r ++ b ∷ c ∷ s) → length (r ++ b ∷ []) ≤ bodyOf (r ++ b ∷ [])
+part : (r : List ℕ) (b c : ℕ) (s : List ℕ) → length (r ++ b ∷ c ∷ s) ≡ 1 + bodyOf (r ++ b ∷ c ∷ s)
+    → length (r ++ b ∷ []) ≤ bodyOf (r ++ b ∷ [])
 part [] b c s w = omega arith
 part (h ∷ r) b c s w = let m = length-append r (b ∷ []) in let n = length-append r (b ∷ c ∷ s) in omega arith
 
@@ -84,7 +86,8 @@ onward-next job x Wait = refl
 onward-next job x Loaded = refl
 onward-next job x (Failed why) = refl
 
-replied-next : (job : Job) (k : ℕ) (r : List ℕ) (t : ℕ) → replied job (held k r t) .next ≡ afterReply job k (taking (job .len) (job .id) k r)
+replied-next : (job : Job) (k : ℕ) (r : List ℕ) (t : ℕ)
+    → replied job (held k r t) .next ≡ afterReply job k (taking (job .len) (job .id) k r)
 unfolding replied
 replied-next job k r t = rw (came r) (onward-next job (held k r t) (afterReply job k (taking (job .len) (job .id) k r)))
 
@@ -102,7 +105,8 @@ module _ (job : Job) (k : ℕ) (r : List ℕ) (t : ℕ) where
   unfolding replied
   goes-on d e l = rw (came r, e, lt-ltb (placeOf k) (job .len) l)
 
-  is-done : taking (job .len) (job .id) k r ≡ takingAs 0 0 (job .digest) → job .len ≤ placeOf k → replied job (held k r t) ≡ turnOf (held k r t) Loaded
+  is-done : taking (job .len) (job .id) k r ≡ takingAs 0 0 (job .digest) → job .len ≤ placeOf k
+      → replied job (held k r t) ≡ turnOf (held k r t) Loaded
   unfolding replied
   is-done e l = rw (came r, e, le-ltb (placeOf k) (job .len) l, same-refl (job .digest))
 

@@ -41,7 +41,8 @@ fewer job x e =
     (λ h p. omega arith)
 
 -- a reply that is not whole has no more than 128 bytes
-within : (job : Job) (x : Exchange) (e : Event) → x .got ≤ 128 → isOver (turned job x e .next) ≡ false → turned job x e .exchange .got ≤ 128
+within : (job : Job) (x : Exchange) (e : Event) → x .got ≤ 128 → isOver (turned job x e .next) ≡ false
+    → turned job x e .exchange .got ≤ 128
 within job x e g =
     by-event job x e (λ (e : Event) (t : Turn). isOver (t .next) ≡ false → t .exchange .got ≤ 128)
     (λ why p. impossible cc)

@@ -63,7 +63,7 @@ difference-short Code = omega arith
 difference-short Status = omega arith
 difference-short Filler = omega arith
 
--- the digest that is taken has 32 bytes, or fewer
+-- a digest has 32 bytes, also where a reply is refused
 padded-length : (d : ℕ) (l : List ℕ) → d ≤ 32 → length (padded 32 (take d l)) ≡ 32
 padded-length d l h = let t = length-take d l in simp (length-append, length-replicate) (omega arith)
 
@@ -71,7 +71,9 @@ digest-length : (n id k : ℕ) (r : List ℕ) → length (taking n id k r .diges
 unfolding taking
 digest-length n id k r = go (eqb (refusal n id k) 0) (isExpected (expectedReply n k) id r)
   where
-    go : (a b : Bool) → length (cond a (cond b (takingAs 0 (statusIn r) (digestIn (expectedReply n k) r)) (refusedWith 43)) (refusedWith (refusal n id k)) .digest) ≡ 32
+    go : (a b : Bool)
+        → length (cond a (cond b (takingAs 0 (statusIn r) (digestIn (expectedReply n k) r)) (refusedWith 43)) (refusedWith (refusal n id k)) .digest)
+        ≡ 32
     go true true = padded-length (expectedReply n k .digest) (drop 3 r) (expected-fits n k .digest)
     go true false = refl
     go false b = refl

@@ -54,7 +54,8 @@ from-frame job k es o = rw (o .split) (go (o .digest) (o .taken) (o .after))
     answer : (d : List ℕ) → taking (job .len) (job .id) k (o .coming) ≡ takingAs 0 0 d → Answer job k d (o .now)
     answer d e = record { reply = o .coming; silences = o .silences; heard = o .heard; whole = o .whole; in-time = o .in-time; taken = e }
 
-    go : (d : List ℕ) → taking (job .len) (job .id) k (o .coming) ≡ takingAs 0 0 d → After job k d (o .later) → Loads job k (o .now ++ o .later)
+    go : (d : List ℕ) → taking (job .len) (job .id) k (o .coming) ≡ takingAs 0 0 d → After job k d (o .later)
+        → Loads job k (o .now ++ o .later)
     go d e (done l p) = last k (o .now) (o .later) l (answer (job .digest) (rw (← p) e))
     go d e (goes l s) = more k d (o .now) (o .later) l (answer d e) s
 
@@ -62,8 +63,8 @@ from-frame job k es o = rw (o .split) (go (o .digest) (o .taken) (o .after))
 
 module _ (job : Job) (k : ℕ) (r : List ℕ) (t : ℕ) (es : List Event) where
   -- the byte that makes a reply whole
-  whole-byte : (b : ℕ) (d : List ℕ) → length (r ++ b ∷ []) ≡ 1 + bodyOf (r ++ b ∷ []) → taking (job .len) (job .id) k (r ++ b ∷ []) ≡ takingAs 0 0 d
-      → After job k d es → Rest job k r t (Byte b ∷ es)
+  whole-byte : (b : ℕ) (d : List ℕ) → length (r ++ b ∷ []) ≡ 1 + bodyOf (r ++ b ∷ [])
+      → taking (job .len) (job .id) k (r ++ b ∷ []) ≡ takingAs 0 0 d → After job k d es → Rest job k r t (Byte b ∷ es)
   whole-byte b d w e a = record {
     coming = b ∷ [];
     silences = 0;
@@ -134,7 +135,9 @@ succeeds job k r t next (e ∷ es) s o p =
     (λ b w q. one-byte job k r t es b (succeeds job k (r ++ b ∷ []) t Wait es w refl q))
     (λ b w. by-held-reply job k (r ++ b ∷ []) t (λ (y : Turn). runs job y es .next ≡ Loaded → Rest job k r t (Byte b ∷ es))
     (λ why q. not-failed job (held k (r ++ b ∷ []) t) why es q)
-    (λ d a l q. whole-byte job k r t es b d w a (goes l (from-frame job (k + 1) es (succeeds job (k + 1) [] (job .wait) Send es (omega arith) refl q))))
+    (λ d a l q.
+    let s = succeeds job (k + 1) [] (job .wait) Send es (omega arith) refl q in
+    whole-byte job k r t es b d w a (goes l (from-frame job (k + 1) es s)))
     (λ a l q. whole-byte job k r t es b (job .digest) w a (done l refl)))
     (λ h q. one-tick job k r t es h (succeeds job k r (t - 1) Wait es s refl q))
     (rw o at p)
@@ -154,8 +157,8 @@ pub loads : (job : Job) (es : List Event) → (runs job (opening job) es .next �
 unfolding opening
 loads job es = (go (lengthOk (job .len)) (ltb 3 (job .id)), λ s. rw (opened job (given-first s)) (loaded job s))
   where
-    go : (l i : Bool) → runs job (turnOf (sentFrame job 0) (cond (not l) (Failed ProgramLength) (cond i (Failed Arguments) Send))) es .next ≡ Loaded
-        → Loads job 0 es
+    go : (l i : Bool)
+        → runs job (turnOf (sentFrame job 0) (cond (not l) (Failed ProgramLength) (cond i (Failed Arguments) Send))) es .next ≡ Loaded → Loads job 0 es
     go false i e = not-failed job (sentFrame job 0) ProgramLength es e
     go true true e = not-failed job (sentFrame job 0) Arguments es e
     go true false e = from-frame job 0 es (succeeds job 0 [] (job .wait) Send es (omega arith) refl e)

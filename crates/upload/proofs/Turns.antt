@@ -19,31 +19,39 @@ use Rattle.upload.specs.declared.Failure.the-variants.{NoAnswer, LineClo
 use Rattle.upload.specs.declared.Next.the-variants.{Send, Wait, Loaded, Failed}
 use Rattle.upload.specs.declared.Turn.{Turn}
 
--- a whole reply: the load fails, goes on or is done
-pub by-reply : (job : Job) (x : Exchange) (P : Turn → Type 0)
-    → ((why : Failure) → P (over x why))
-    → ((d : List ℕ) → taking (job .len) (job .id) (x .k) (cameOf x) ≡ takingAs 0 0 d → placeOf (x .k) < job .len
-    → P (turnOf (sentFrame job (x .k + 1)) Send))
-    → (taking (job .len) (job .id) (x .k) (cameOf x) ≡ takingAs 0 0 (job .digest) → job .len ≤ placeOf (x .k) → P (turnOf x Loaded))
-    → P (replied job x)
-unfolding replied
-by-reply job x P fails goes done = by-taking (taking (job .len) (job .id) (x .k) (cameOf x)) refl
-  where
-    by-taking : (t : Taking) → taking (job .len) (job .id) (x .k) (cameOf x) ≡ t → P (onward job x (afterReply job (x .k) t))
-    by-taking t e = go (eqb (t .number) 0) (eqb (t .status) 0) (ltb (placeOf (x .k)) (job .len)) (same (t .digest) (job .digest)) refl refl refl refl
-      where
-        as-taken : eqb (t .number) 0 ≡ true → eqb (t .status) 0 ≡ true → taking (job .len) (job .id) (x .k) (cameOf x) ≡ takingAs 0 0 (t .digest)
-        as-taken p q =
-            e ∙ ap (λ (n : ℕ). takingAs n (t .status) (t .digest)) (eqb-true (t .number) 0 p) ∙ ap (λ (s : ℕ). takingAs 0 s (t .digest)) (eqb-true (t .status) 0 q)
+module _ (job : Job) (x : Exchange) where
+  -- the reply as the client takes it
+  abbrev taken : Taking
+  taken = taking (job .len) (job .id) (x .k) (cameOf x)
 
-        go : (n s l d : Bool) → eqb (t .number) 0 ≡ n → eqb (t .status) 0 ≡ s → ltb (placeOf (x .k)) (job .len) ≡ l → same (t .digest) (job .digest) ≡ d
-            → P (onward job x (cond (not n) (Failed UnexpectedReply) (cond (not s) (Failed Refused) (cond l Send (cond d Loaded (Failed OtherDigest))))))
-        go false s l d p q r u = fails UnexpectedReply
-        go true false l d p q r u = fails Refused
-        go true true true d p q r u = goes (t .digest) (as-taken p q) (ltb-true (placeOf (x .k)) (job .len) r)
-        go true true false true p q r u =
-            done (rw (← (same-eq (t .digest) (job .digest) u)) (as-taken p q)) (ltb-false (placeOf (x .k)) (job .len) r)
-        go true true false false p q r u = fails OtherDigest
+  -- a whole reply: the load fails, goes on or is done
+  pub by-reply : (P : Turn → Type 0)
+      → ((why : Failure) → P (over x why))
+      → ((d : List ℕ) → taken ≡ takingAs 0 0 d → placeOf (x .k) < job .len → P (turnOf (sentFrame job (x .k + 1)) Send))
+      → (taken ≡ takingAs 0 0 (job .digest) → job .len ≤ placeOf (x .k) → P (turnOf x Loaded))
+      → P (replied job x)
+  unfolding replied
+  by-reply P fails goes done = by-taking taken refl
+    where
+      by-taking : (t : Taking) → taken ≡ t → P (onward job x (afterReply job (x .k) t))
+      by-taking t e =
+          go (eqb (t .number) 0) (eqb (t .status) 0) (ltb (placeOf (x .k)) (job .len)) (same (t .digest) (job .digest)) refl refl refl refl
+        where
+          as-taken : eqb (t .number) 0 ≡ true → eqb (t .status) 0 ≡ true → taken ≡ takingAs 0 0 (t .digest)
+          as-taken p q =
+              e ∙ ap (λ (n : ℕ). takingAs n (t .status) (t .digest)) (eqb-true (t .number) 0 p)
+              ∙ ap (λ (s : ℕ). takingAs 0 s (t .digest)) (eqb-true (t .status) 0 q)
+
+          go : (n s l d : Bool) → eqb (t .number) 0 ≡ n → eqb (t .status) 0 ≡ s → ltb (placeOf (x .k)) (job .len) ≡ l
+              → same (t .digest) (job .digest) ≡ d
+              → P (onward job x
+              (cond (not n) (Failed UnexpectedReply) (cond (not s) (Failed Refused) (cond l Send (cond d Loaded (Failed OtherDigest))))))
+          go false s l d p q r u = fails UnexpectedReply
+          go true false l d p q r u = fails Refused
+          go true true true d p q r u = goes (t .digest) (as-taken p q) (ltb-true (placeOf (x .k)) (job .len) r)
+          go true true false true p q r u =
+              done (rw (← (same-eq (t .digest) (job .digest) u)) (as-taken p q)) (ltb-false (placeOf (x .k)) (job .len) r)
+          go true true false false p q r u = fails OtherDigest
 
 -- an event: the load fails, the reply grows or is whole, or there is one tick less
 pub by-event : (job : Job) (x : Exchange) (e : Event) (P : Event → Turn → Type 0)

@@ -41,10 +41,12 @@ pub record Answer (job : Job) (k : ℕ) (digest : List ℕ) (es : List Event) : 
   pub in-time : silences < max 1 (job .wait)
   pub taken : taking (job .len) (job .id) k reply ≡ takingAs 0 0 digest
 
--- the events, from frame k on, of a load that succeeds: an answer to each frame, the last with the program's digest; what comes then is not looked at
+-- the events, from frame k on, of a load that succeeds: an answer to each frame, the last with the program's digest; what comes then is not
+-- looked at
 pub data Loads (job : Job) : ℕ → List Event → Type 0 where
   last : (k : ℕ) (es rest : List Event) → job .len ≤ placeOf k → Answer job k (job .digest) es → Loads job k (es ++ rest)
-  more : (k : ℕ) (digest : List ℕ) (es rest : List Event) → placeOf k < job .len → Answer job k digest es → Loads job (k + 1) rest → Loads job k (es ++ rest)
+  more : (k : ℕ) (digest : List ℕ) (es rest : List Event) → placeOf k < job .len → Answer job k digest es → Loads job (k + 1) rest
+      → Loads job k (es ++ rest)
 
 -- a program of one byte with frame ID 1 and a wait of two ticks, and its digest as 32 times 0xdd
 abbrev pub small : Job
@@ -75,7 +77,8 @@ pub record Uploads : Type 0 where
       × (runs small (opening small) (Byte 0x31 ∷ Closed ∷ []) .next ≡ Failed LineClosed)
       × (runs small (opening small) (Byte 0x80 ∷ []) .next ≡ Failed UnexpectedReply)
       × (runs small (opening small) (bytesOf (0x31 ∷ 0x04 ∷ 1 ∷ 0 ∷ 0 ∷ [])) .next ≡ Failed Refused)
-      × (runs small (opening small) (bytesOf loadReply ++ bytesOf (0x33 ∷ 0x07 ∷ 0 ∷ replicate 32 0xde ++ zeros 94)) .next ≡ Failed OtherDigest)
+      × (runs small (opening small) (bytesOf loadReply ++ bytesOf (0x33 ∷ 0x07 ∷ 0 ∷ replicate 32 0xde ++ zeros 94)) .next
+      ≡ Failed OtherDigest)
   -- every message fits a text, and so does every line of progress
   pub fits : (job : Job) (x : Exchange) (f : Failure) → length (x .reply) ≡ 129 → length (messageOf job x f) ≤ 512
   pub loaded-fits : (job : Job) → length (job .digest) ≡ 32 → length (loadedLine job) ≤ 512
