@@ -9,7 +9,7 @@ use Rattle.endian.specs.Lists.{same}
 use Rattle.endian.proofs.Same.{same-eq}
 use Rattle.protocol.specs.Commands.{placeOf}
 use Rattle.client.specs.Replies.{Taking, takingAs, taking}
-use Rattle.upload.specs.Upload.{turnOf, over, sentFrame, afterReply, cameOf, onward, replied, withByte, isWhole, received, silent, turned}
+use Rattle.upload.specs.Upload.{turnOf, over, sentFrame, afterReply, cameOf, onward, replied, withByte, isWhole, received, withSilence, silent, turned}
 use Rattle.upload.specs.declared.Job.{Job}
 use Rattle.upload.specs.declared.Exchange.{Exchange}
 use Rattle.upload.specs.declared.Event.{Event}
@@ -58,7 +58,7 @@ pub by-event : (job : Job) (x : Exchange) (e : Event) (P : Event → Turn → Ty
     → ((why : Failure) → P e (over x why))
     → ((b : ℕ) → x .got ≤ 128 → isWhole (withByte x b) ≡ false → P (Byte b) (turnOf (withByte x b) Wait))
     → ((b : ℕ) → x .got ≤ 128 → isWhole (withByte x b) ≡ true → P (Byte b) (replied job (withByte x b)))
-    → (1 < x .ticks → P Silence (turnOf (record { k = x .k; got = x .got; reply = x .reply; ticks = x .ticks - 1 }) Wait))
+    → (1 < x .ticks → P Silence (turnOf (withSilence x) Wait))
     → P e (turned job x e)
 unfolding received silent
 by-event job x (Byte b) P fails grows whole waits = go (ltb 128 (x .got)) (isWhole (withByte x b)) refl refl
@@ -70,8 +70,7 @@ by-event job x (Byte b) P fails grows whole waits = go (ltb 128 (x .got)) (isWho
     go false false p q = grows b (ltb-false 128 (x .got) p) q
 by-event job x Silence P fails grows whole waits = go (leb (x .ticks) 1) refl
   where
-    go : (t : Bool) → leb (x .ticks) 1 ≡ t
-        → P Silence (cond t (over x NoAnswer) (turnOf (record { k = x .k; got = x .got; reply = x .reply; ticks = x .ticks - 1 }) Wait))
+    go : (t : Bool) → leb (x .ticks) 1 ≡ t → P Silence (cond t (over x NoAnswer) (turnOf (withSilence x) Wait))
     go true p = fails NoAnswer
     go false p = waits (leb-false (x .ticks) 1 p)
 by-event job x Closed P fails grows whole waits = fails LineClosed
