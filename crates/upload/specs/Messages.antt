@@ -78,7 +78,7 @@ messageOf job x Arguments = ascii "bad arguments; see ./load --help"
 messageOf job x Unreadable = ascii "cannot be read"
 messageOf job x ProgramLength = lengthWords job
 messageOf job x SecretLength = ascii "a user secret has exactly 32 bytes"
-messageOf job x Device = ascii "cannot be opened as a serial line"
+messageOf job x Device = ascii "is not a serial line"
 messageOf job x NoAnswer = noAnswer job x
 messageOf job x LineClosed = lineClosed job x
 messageOf job x UnexpectedReply = unexpected job x
@@ -88,7 +88,11 @@ messageOf job x OtherDigest = otherDigest job x
 -- ---- a load
 
 abbrev pub loadedLine : Job → List ℕ
-loadedLine job = ascii "loaded " ++ decimalOf (job .len) ++ ascii " bytes, digest " ++ hexOf (job .digest)
+loadedLine job = ascii "loaded " ++ decimalOf (job .len) ++ ascii " bytes, digest " ++ hexOf (job .digest) ++ ascii "\n"
+
+-- the last reply is the same where the head starts and where it stops with 25
+abbrev pub startedLine : List ℕ
+startedLine = ascii "a head of type 4 has started it; one of type 5 has if its record requires this digest, and shows its lamp (25) otherwise\n"
 
 -- ---- the line that is rewritten meanwhile
 

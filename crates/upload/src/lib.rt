@@ -5,6 +5,10 @@ mod steps;
 
 ghost use mathlib.Core.Path.{_≡_};
 ghost use Rattle.upload.specs.Upload.{isOver, exitNumber};
+pub use messages::loaded;
+pub use messages::message;
+pub use messages::progress;
+pub use messages::started;
 pub use steps::advance;
 pub use steps::open;
 
@@ -48,7 +52,7 @@ pub enum Failure {
     Unreadable,
     ProgramLength,
     SecretLength,
-    // A device that cannot be opened, or is no serial line.
+    // A device that is no serial line.
     Device,
     NoAnswer,
     LineClosed,

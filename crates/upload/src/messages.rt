@@ -4,7 +4,7 @@ ghost use Prim.Native.Nat.{_<_, _≤_, min};
 ghost use Rattle.text.specs.Text.{hexOf, added, textOf};
 ghost use Rattle.protocol.specs.Commands.{blocksFor};
 ghost use Rattle.upload.specs.Upload.{cameOf};
-ghost use Rattle.upload.specs.Messages.{blockName, frameName, secondsOf, cameName, noAnswer, lineClosed, differenceName, unexpected, refused, otherDigest, lengthWords, messageOf, loadedLine, barOf, countOf, rateOf, lineAt, progressLine};
+ghost use Rattle.upload.specs.Messages.{blockName, frameName, secondsOf, cameName, noAnswer, lineClosed, differenceName, unexpected, refused, otherDigest, lengthWords, messageOf, loadedLine, startedLine, barOf, countOf, rateOf, lineAt, progressLine};
 use super::Exchange;
 use super::Failure;
 use super::Job;
@@ -173,7 +173,7 @@ pub fn message(job: Job, x: Exchange, f: Failure) -> Text
         Failure::Unreadable => text::put_all(t, b"cannot be read"),
         Failure::ProgramLength => program_length(t, job),
         Failure::SecretLength => text::put_all(t, b"a user secret has exactly 32 bytes"),
-        Failure::Device => text::put_all(t, b"cannot be opened as a serial line"),
+        Failure::Device => text::put_all(t, b"is not a serial line"),
         Failure::NoAnswer => no_answer(t, job, x),
         Failure::LineClosed => line_closed(t, job, x),
         Failure::UnexpectedReply => unexpected_reply(t, job, x),
@@ -190,7 +190,18 @@ pub fn loaded(job: Job) -> Text
     let b = text::put_decimal(a, job.len as u64);
     let c = text::put_all(b, b" bytes, digest ");
     let ours = job.digest;
-    text::put_hex(c, &ours)
+    let d = text::put_hex(c, &ours);
+    text::put_all(d, b"\n")
+}
+
+// The line of what that means: the last reply is the same where the head starts and where it stops with 25.
+pub fn started() -> Text
+    ensures { λ r. ⌜ r ≡ textOf startedLine ⌝ }
+{
+    text::put_all(
+        text::empty(),
+        b"a head of type 4 has started it; one of type 5 has if its record requires this digest, and shows its lamp (25) otherwise\n",
+    )
 }
 
 // ---- progress

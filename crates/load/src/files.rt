@@ -1,0 +1,119 @@
+// Arguments, files, and what is said of them.
+ghost use Prim.Native.Nat.{_≤_};
+use client::Secret;
+use libc::STDERR_FILENO;
+use upload::Failure;
+use upload::Job;
+use upload::Turn;
+
+// What reading a file gives.
+pub enum Contents {
+    // So many bytes.
+    Bytes(usize),
+    Unreadable,
+}
+
+// Reads a file into buf, to its end or as much as there is room for. A read that fails and the end of a file look alike to read_full, so one
+// more read tells.
+pub fn read(name: &[u8], buf: &mut [u8]) -> Contents {
+    let fd = os::open_read(name);
+    if fd < 0 {
+        return Contents::Unreadable;
+    }
+    let n = io::read_full(fd, buf);
+    if n < buf.len() {
+        let mut more = [0u8; 1];
+        if libc::read(fd, &mut more) != 0 {
+            return Contents::Unreadable;
+        }
+    }
+    libc::close(fd);
+    Contents::Bytes(n)
+}
+
+// The first n bytes. No caller asks for more than there are, and the test spares each the proof of it.
+pub fn first(s: &[u8], n: usize) -> &[u8] {
+    if n <= s.len() { &s[..n] } else { s }
+}
+
+pub fn no_secret() -> Secret {
+    Secret {
+        used: false,
+        uss: [0; 32],
+    }
+}
+
+// The secret in a file of 32 bytes.
+pub fn secret_in(file: [u8; 33]) -> Secret {
+    let mut uss = [0u8; 32];
+    let mut i = 0;
+    while i < 32 {
+        uss[i] = file[i];
+        i += 1;
+    }
+    Secret { used: true, uss }
+}
+
+// ---- numbers
+
+// The argument i as a number; the script has seen to it that it is one.
+pub fn number_at(i: usize) -> u32 {
+    let mut digits = [0u8; 8];
+    let n = os::arg(i, &mut digits);
+    number_in(&digits[..n])
+}
+
+// The number that digits say, of at most eight.
+fn number_in(s: &[u8]) -> u32 {
+    let mut number: u32 = 0;
+    let mut i: usize = 0;
+    while i < s.len() {
+        if 9999999 < number {
+            return number;
+        }
+        number = number * 10 + digit(s[i]);
+        i += 1;
+    }
+    number
+}
+
+fn digit(b: u8) -> u32
+    ensures { λ r. ⌜ r ≤ 9 ⌝ }
+{
+    if b < 48 {
+        return 0;
+    }
+    if 57 < b {
+        return 0;
+    }
+    b as u32 - 48
+}
+
+// A frame ID; 4, which no frame has, for a number that is none.
+pub fn id(number: u32) -> u8 {
+    if number < 4 { number as u8 } else { 4 }
+}
+
+// ---- what is said
+
+fn begin_line(name: &[u8]) {
+    io::write_all(STDERR_FILENO, b"load: ");
+    io::write_all(STDERR_FILENO, name);
+    io::write_all(STDERR_FILENO, b": ");
+}
+
+// Says of a file or a device why nothing is loaded, and answers the exit status.
+pub fn say(name: &[u8], job: Job, t: Turn, why: Failure) -> u32 {
+    let x = t.exchange;
+    begin_line(name);
+    text::write(STDERR_FILENO, upload::message(job, x, why));
+    io::write_all(STDERR_FILENO, b"\n");
+    upload::exit_number(why)
+}
+
+// Says why a file cannot be read, as errno does, and answers the exit status.
+pub fn fail(name: &[u8]) -> u32 {
+    begin_line(name);
+    os::fail(b"cannot be read");
+    upload::exit_number(Failure::Unreadable)
+}

@@ -1,0 +1,92 @@
+// Loads a program into the head on a serial line. What is sent and taken is proved in crate `client`, what is done next and what is said in
+// crate `upload`. What no contract can say is left to this program: that it hands over the bytes that it reads, in order, and sends each frame.
+// The script ./load opens the line: on descriptor 4 a read waits a tick, a tenth of a second, for a byte, and on 5 a write never waits. A
+// Rattle program has no exit status: its number goes to descriptor 3.
+mod files;
+mod line;
+
+use client::Secret;
+use files::Contents;
+use libc::STDERR_FILENO;
+use libc::STDOUT_FILENO;
+use upload::Failure;
+use upload::Job;
+use upload::Next;
+use upload::Turn;
+
+fn main() {
+    let number = run();
+    io::print_decimal(3, number as u64);
+}
+
+// The arguments are the names of the device and of the program, the frame ID, the ticks to wait and, if there is one, the name of the
+// secret's file. Answers the exit status.
+fn run() -> u32 {
+    let mut program = [0u8; 131073];
+    let mut name = io::buffer();
+    let n = os::arg(2, &mut name);
+    let Contents::Bytes(len) = files::read(&name[..n], &mut program) else {
+        return files::fail(&name[..n]);
+    };
+    let bytes = files::first(&program, len);
+    let job = job_of(bytes);
+    let t = upload::open(job);
+    let next = t.next;
+    if upload::is_over(next) {
+        return conclude(&name[..n], job, t);
+    }
+    with_secret(bytes, job)
+}
+
+// What is to be loaded, with the program's digest.
+fn job_of(program: &[u8]) -> Job {
+    let mut digest = [0u8; 32];
+    blake2s::hash(&[], program, &mut digest);
+    Job {
+        len: program.len(),
+        id: files::id(files::number_at(3)),
+        digest,
+        wait: files::number_at(4),
+    }
+}
+
+// Reads the user secret, if there is one, and loads.
+fn with_secret(program: &[u8], job: Job) -> u32 {
+    if os::arg_count() < 6 {
+        return load(program, job, files::no_secret());
+    }
+    let mut name = io::buffer();
+    let n = os::arg(5, &mut name);
+    let mut file = [0u8; 33];
+    let Contents::Bytes(len) = files::read(&name[..n], &mut file) else {
+        return files::fail(&name[..n]);
+    };
+    if len != 32 {
+        return files::say(&name[..n], job, upload::open(job), Failure::SecretLength);
+    }
+    load(program, job, files::secret_in(file))
+}
+
+// Loads, and says how it went.
+fn load(program: &[u8], job: Job, secret: Secret) -> u32 {
+    let mut name = io::buffer();
+    let n = os::arg(1, &mut name);
+    if libc::isatty(line::INPUT) != 1 {
+        return files::say(&name[..n], job, upload::open(job), Failure::Device);
+    }
+    let t = line::converse(program, job, secret);
+    conclude(&name[..n], job, t)
+}
+
+// The last words: of the load, or of its failure.
+fn conclude(name: &[u8], job: Job, t: Turn) -> u32 {
+    let next = t.next;
+    match next {
+        Next::Failed(why) => files::say(name, job, t, why),
+        _ => {
+            text::write(STDOUT_FILENO, upload::loaded(job));
+            text::write(STDERR_FILENO, upload::started());
+            0
+        }
+    }
+}

@@ -1,0 +1,135 @@
+// A head on a pseudo-terminal: the proved loader (crate `loader`) behind standard input and output. ./simulate opens the terminal.
+// On descriptor 4 come the record, the UDS, the UDI, the RAM's length and, as 1 or 0, whether descriptor 2 is a terminal. What is shown
+// (crate `display`) goes to descriptor 2 and the exit status, which a Rattle program has not, to descriptor 3.
+// What no contract can say is left to this file: that it hands over the bytes that it reads, in order, and writes each reply and text.
+use libc::STDERR_FILENO;
+use libc::STDIN_FILENO;
+use libc::STDOUT_FILENO;
+use loader::Answer;
+use loader::State;
+
+// A head between two bytes, with its device secret and its last answer; over says that no byte is received any more.
+struct Head {
+    state: State,
+    words: [u32; 8],
+    answer: Answer,
+    over: bool,
+}
+
+fn main() {
+    let mut ram = [0u8; 131072];
+    let record = read_record();
+    let words = read_words();
+    let udi = read_udi();
+    let n = read_number() as usize;
+    let terminal = read_number() == 1;
+    let begun = loader::begin(&record, udi, n);
+    let answer = begun.answer;
+    let state = begun.state;
+    let head = Head {
+        state,
+        words,
+        answer,
+        over: is_over(answer),
+    };
+    text::write(STDERR_FILENO, display::begun(answer));
+    if n <= 131072 {
+        serve(head, terminal, &mut ram[..n]);
+    }
+}
+
+// Receives bytes until the head starts or stops. A proved loop has to end, and nothing says that a cable falls silent, so the turns are
+// counted down from a number that no cable uses up.
+fn serve(begun: Head, terminal: bool, ram: &mut [u8]) {
+    let mut head = begun;
+    let mut turns = u64::MAX;
+    while turns > 0 && !head.over {
+        let next = turn(head, terminal, ram);
+        head = next;
+        turns -= 1;
+    }
+    let answer = head.answer;
+    io::print_decimal(3, display::exit_number(answer) as u64);
+}
+
+// Receives one byte: its reply is sent, and then it is shown. A read that fails is an end.
+fn turn(head: Head, terminal: bool, ram: &mut [u8]) -> Head {
+    let mut byte = [0u8; 1];
+    if libc::read(STDIN_FILENO, &mut byte) != 1 {
+        let mut end = head;
+        end.over = true;
+        return end;
+    }
+    let state = head.state;
+    let before = state.progress;
+    let mut words = head.words;
+    let mut room = [0u8; 129];
+    let r = loader::receive(state, byte[0], &mut room, ram, &mut words);
+    send(room, r.reply);
+    let answer = r.answer;
+    let next = r.state;
+    let cdi = r.cdi;
+    text::write(
+        STDERR_FILENO,
+        display::received(terminal, before, answer, next.progress, cdi),
+    );
+    Head {
+        state: next,
+        words,
+        answer,
+        over: is_over(answer),
+    }
+}
+
+fn is_over(answer: Answer) -> bool {
+    match answer {
+        Answer::Continue => false,
+        Answer::Refused(_) => true,
+        Answer::Stopped(_) => true,
+        Answer::Started {
+            address: _,
+            size: _,
+        } => true,
+    }
+}
+
+// Sends the first n bytes of the room. No reply is longer than the room, and the test spares the proof of it.
+fn send(room: [u8; 129], n: usize) {
+    if n <= 129 {
+        io::write_all(STDOUT_FILENO, &room[..n]);
+    }
+}
+
+// ---- descriptor 4; what does not come there is zeros
+
+fn read_record() -> [u8; 256] {
+    let mut record = [0u8; 256];
+    io::read_full(4, &mut record);
+    record
+}
+
+fn read_words() -> [u32; 8] {
+    [
+        read_number(),
+        read_number(),
+        read_number(),
+        read_number(),
+        read_number(),
+        read_number(),
+        read_number(),
+        read_number(),
+    ]
+}
+
+fn read_udi() -> [u8; 8] {
+    let mut udi = [0u8; 8];
+    io::read_full(4, &mut udi);
+    udi
+}
+
+// Four bytes, lowest first.
+fn read_number() -> u32 {
+    let mut b = [0u8; 4];
+    io::read_full(4, &mut b);
+    endian::word(b[0], b[1], b[2], b[3])
+}

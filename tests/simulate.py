@@ -1,0 +1,311 @@
+#!/usr/bin/env python3
+"""Loads ./simulate over real pseudo-terminals with the independent client (server.py), and compares every reply, every line that it shows,
+the CDI by hashlib and the exit status. The cases run beside each other.
+"""
+import concurrent.futures
+import itertools
+import os
+import random
+import shutil
+import signal
+import subprocess
+import sys
+import tempfile
+import threading
+import time
+from pathlib import Path
+
+import server
+from head import RAM_MOST, blake2s
+from pty_peer import Terminal, opened
+
+TOP = Path(__file__).resolve().parent.parent
+SIMULATE = TOP / "simulate"
+SECONDS = 30
+SIZES = [1, 127, 128, 254, 255, 32768, RAM_MOST]
+
+# README's table of stops
+STOPS = {
+    22: "stopped 22: bit 7 or bit 2 of a header is set\n",
+    23: "stopped 23: the command is not allowed now, or unknown\n",
+    24: "stopped 24: the command has another body length\n",
+    25: "stopped 25: the program has not the required digest\n",
+}
+NAME = (b"\x10\x01", server.whole(0, b"\x02tk1 mkdf\x01", 32))
+UDI = (b"\x30\x08", server.whole(1, b"\x09", 32))
+
+
+class Wrong(Exception):
+    pass
+
+
+def expect(what, got, wanted):
+    if got != wanted:
+        raise Wrong(f"{what}: got {got!r}, expected {wanted!r}")
+
+
+class Head:
+    """A simulation, and the client's end of its terminal."""
+
+    def __init__(self, *options, command=SIMULATE, out=subprocess.PIPE):
+        words = [command, *map(str, options)]
+        self.process = subprocess.Popen(words, stdin=subprocess.DEVNULL, stdout=out, stderr=subprocess.PIPE, bufsize=0)
+        self.limit = threading.Timer(SECONDS, self.process.kill)
+        self.limit.start()
+        if out == subprocess.PIPE:
+            self.meet(self.process.stdout.readline())
+
+    def meet(self, line):
+        self.name = line.decode().rstrip("\n")
+        self.line = opened(self.name)
+
+    def ask(self, sent, wanted):
+        self.line.write(sent)
+        expect(f"the reply to {sent[:8].hex()}..", self.line.read(len(wanted)), wanted)
+
+    def load(self, program, id=0, secret=None, reopen=False):
+        """The whole load."""
+        digest = blake2s(program)
+        for k in range(server.blocks(len(program)) + 1):
+            self.ask(server.frame(program, id, secret, k), server.reply(len(program), id, k, 0, digest))
+            if reopen:
+                self.line.close()
+                self.line = opened(self.name)
+
+    def ends(self, status, out, err=""):
+        got = self.process.communicate()
+        self.limit.cancel()
+        shown = got[0].decode() if got[0] is not None else None
+        expect("exit status, standard output and error", (self.process.returncode, shown, got[1].decode()), (status, out, err))
+
+
+def shown(program, end):
+    return f"waiting\nloading {len(program)} bytes\n{server.blocks(len(program))} blocks\n{end}"
+
+
+def started(program, uds=server.ZEROS, measured_id=None, secret=None):
+    measured = blake2s(program) if measured_id is None else measured_id
+    domain = (secret is not None) + 2 * (measured_id is not None)
+    return f"started, {len(program)} bytes, CDI {blake2s(uds + bytes([domain]) + measured + (secret or b'')).hex()}\n"
+
+
+# ---- loads
+
+
+def load(folder, seed, size, kind, chained, with_secret):
+    rng = random.Random(seed)
+    program, uds, id = rng.randbytes(size), rng.randbytes(32), rng.randrange(4)
+    measured_id, secret = rng.randbytes(32) if chained else None, rng.randbytes(32) if with_secret else None
+    options = ["--uds", uds.hex()] + (["--measured-id", measured_id.hex()] if chained else [])
+    if kind == 5:
+        path = folder / f"program {seed}"
+        path.write_bytes(program)
+        options += ["--require", path] + (["--type", 5] if seed % 2 else [])
+    elif seed % 2:
+        options += ["--type", 4]
+    head = Head(*options)
+    head.ask(*NAME)
+    head.ask(*UDI)
+    head.load(program, id, secret)
+    head.ends(0, shown(program, started(program, uds, measured_id, secret)))
+
+
+def no_room(folder):
+    """Status 1, after which the head waits; then a program as long as the RAM."""
+    head = Head("--ram", 300)
+    head.ask(server.frame(bytes(301), 2, None, 0), server.reply(301, 2, 0, 1, b""))
+    head.ask(*NAME)
+    head.load(b"x" * 300, 2)
+    head.ends(0, shown(b"x" * 300, started(b"x" * 300)))
+
+
+def opened_often(folder):
+    head = Head()
+    head.load(b"y" * 1000, reopen=True)
+    head.ends(0, shown(b"y" * 1000, started(b"y" * 1000)))
+
+
+def read_late(folder):
+    """The last reply is still there when the head has started long ago."""
+    program, last = b"z", server.frame(b"z", 0, None, 1)
+    head = Head()
+    head.ask(server.frame(program, 0, None, 0), server.reply(1, 0, 0, 0, b""))
+    head.line.write(last)
+    time.sleep(0.5)
+    head.ask(b"", server.reply(1, 0, 1, 0, blake2s(program)))
+    began = time.monotonic()
+    head.ends(0, shown(program, started(program)))
+    expect("an end soon after that", time.monotonic() - began < 1, True)
+
+
+def never_read(folder):
+    """Nor does it wait for ever."""
+    head = Head()
+    head.line.write(b"".join(server.frame(b"z", 0, None, k) for k in (0, 1)))
+    head.ends(0, shown(b"z", started(b"z")))
+
+
+# ---- stops
+
+
+def other_digest(folder):
+    path = folder / "required"
+    path.write_bytes(b"the required program")
+    head = Head("--require", path)
+    head.load(b"another program")
+    head.ends(25, shown(b"another program", STOPS[25]))
+
+
+def stops(number, *frames):
+    """The head stops without a reply, with the lamp's reason."""
+
+    def case(folder):
+        head = Head()
+        head.line.write(b"".join(frames))
+        head.ends(number, "waiting\n" + STOPS[number])
+
+    return case
+
+
+def stops_while_loading(folder):
+    head = Head()
+    for k in range(2):
+        head.ask(server.frame(bytes(300), 0, None, k), server.reply(300, 0, k, 0, b""))
+    head.line.write(b"\x10\x01")
+    head.ends(23, "waiting\nloading 300 bytes\n" + STOPS[23])
+
+
+# ---- what a terminal shows
+
+
+def on_terminal(*options):
+    """A simulation that shows on a terminal, and that terminal."""
+    screen = Terminal()
+    head = Head(*options, out=screen.slave)
+    name = b""
+    while not name.endswith(b"\n"):
+        name += screen.line.read(1) or b"\n"
+    head.meet(name)
+    return head, screen
+
+
+def terminal_start(folder):
+    program = b"t" * 300
+    head, screen = on_terminal()
+    head.load(program)
+    lines = "waiting\nloading 300 bytes\n\rblock 1 of 3\rblock 2 of 3\rblock 3 of 3\n" + started(program)
+    expect("on a terminal", screen.line.read(len(lines)).decode(), lines)
+    head.ends(0, None)
+    expect("behind it", screen.line.some(0), b"")
+
+
+def terminal_stop(folder):
+    head, screen = on_terminal()
+    for k in range(2):
+        head.ask(server.frame(bytes(300), 0, None, k), server.reply(300, 0, k, 0, b""))
+    head.line.write(b"\x90")
+    lines = "waiting\nloading 300 bytes\n\rblock 1 of 3\n" + STOPS[22]
+    expect("on a terminal", screen.line.read(len(lines)).decode(), lines)
+    head.ends(22, None)
+
+
+# ---- commands that do not come so far
+
+BAD = [
+    ["--type", "5"],
+    ["--type", "4", "--require", SIMULATE],
+    ["--type", "3"],
+    ["--type", "x"],
+    ["--require", "no such file"],
+    ["--require", "/"],
+    ["--require"],
+    ["--ram", "0"],
+    ["--ram", "131073"],
+    ["--ram", "-1"],
+    ["--ram", "1_0"],
+    ["--uds", "00"],
+    ["--uds", "zz" * 32],
+    ["--measured-id", "00" * 33],
+    ["--mea", "00" * 32],
+    ["program"],
+]
+
+
+def bad(options):
+    """One line, and nothing else."""
+
+    def case(folder):
+        done = subprocess.run([SIMULATE, *options], stdin=subprocess.DEVNULL, capture_output=True, timeout=SECONDS)
+        lines = done.stderr.decode().splitlines()
+        expect(f"{options}", (done.returncode, done.stdout, len(lines), lines[0][:10]), (2, b"", 1, "simulate: "))
+
+    return case
+
+
+def usage(folder):
+    done = subprocess.run([SIMULATE, "--help"], capture_output=True, timeout=SECONDS)
+    expect("--help", (done.returncode, done.stdout[:18], done.stderr), (0, b"usage: ./simulate ", b""))
+
+
+def not_built(folder):
+    """The log of a build that fails, and status 1."""
+    top = folder / "a copy"
+    for part in ("scripts", "crates", "bin"):
+        (top / part).mkdir(parents=True)
+    (top / "crates.txt").touch()
+    shutil.copy(SIMULATE, top)
+    shutil.copy(TOP / "scripts" / "built", top / "scripts")
+    (top / "bin" / "rt").write_text("#!/bin/sh\necho not proved\nexit 1\n")
+    (top / "bin" / "rt").chmod(0o755)
+    environment = {**os.environ, "PATH": f"{top}/bin:{os.environ['PATH']}"}
+    done = subprocess.run([top / "simulate"], env=environment, capture_output=True, timeout=SECONDS)
+    expect("not built", (done.returncode, done.stdout, done.stderr), (1, b"", b"not proved\n"))
+
+
+def dies(folder):
+    """The head's program is killed: status 1."""
+    head = Head()
+    children = Path(f"/proc/{head.process.pid}/task/{head.process.pid}/children")
+    expect("the first line", head.process.stdout.readline(), b"waiting\n")
+    os.kill(int(children.read_text().split()[0]), signal.SIGKILL)
+    head.ends(1, "", "simulate: the head's program died\n")
+
+
+def cases():
+    kinds = itertools.product(SIZES, (4, 5), (False, True), (False, True))
+    for seed, (size, kind, chained, secret) in enumerate(kinds):
+        what = f"{size} bytes, type {kind}, {'chained' if chained else 'direct'}, {'a' if secret else 'no'} user secret"
+        yield what, lambda folder, given=(seed, size, kind, chained, secret): load(folder, *given)
+    for case in (no_room, opened_often, read_late, never_read, other_digest, stops_while_loading, terminal_start, terminal_stop):
+        yield case.__name__, case
+    for case in (usage, not_built, dies):
+        yield case.__name__, case
+    yield "stop 22", stops(22, b"\x90")
+    yield "stop 22 after a query", stops(22, b"\x14")
+    yield "stop 23", stops(23, server.frame(b"program", 0, None, 1))
+    yield "stop 24", stops(24, server.whole(0, b"\x01", 4))
+    for options in BAD:
+        yield f"bad arguments {options}", bad(options)
+
+
+def wrong(what, case, folder):
+    try:
+        case(folder)
+    except (Wrong, OSError, subprocess.TimeoutExpired) as error:
+        print(f"simulate: {what}: {error}", file=sys.stderr)
+        return 1
+    return 0
+
+
+def main():
+    subprocess.run([TOP / "scripts" / "built", "simulate"], check=True, stdout=subprocess.DEVNULL)
+    with tempfile.TemporaryDirectory() as name, concurrent.futures.ThreadPoolExecutor(4) as pool:
+        runs = [pool.submit(wrong, what, case, Path(name)) for what, case in cases()]
+        failed = sum(run.result() for run in runs)
+    if failed == 0:
+        print(f"simulate: {len(runs)} cases as expected")
+    return int(failed > 0)
+
+
+if __name__ == "__main__":
+    sys.exit(main())
