@@ -7,7 +7,7 @@ use mathlib.Core.List.{List, [], _∷_, _++_}
 use lib.ListN.{length, getD, replicate}
 use Rattle.endian.specs.Lists.{zeros}
 use Rattle.framing.specs.Header.{headerAt, bodyLen}
-use Rattle.protocol.specs.Commands.{lengthOk, placeOf}
+use Rattle.protocol.specs.Commands.{placeOf}
 use Rattle.client.specs.Frames.{refusal}
 use Rattle.client.specs.Replies.{takingAs, taking}
 use Rattle.text.specs.Text.{ascii}
@@ -41,10 +41,12 @@ pub record Answer (job : Job) (k : ℕ) (digest : List ℕ) (es : List Event) : 
   pub in-time : silences < max 1 (job .wait)
   pub taken : taking (job .len) (job .id) k reply ≡ takingAs 0 0 digest
 
--- the events, from frame k on, of a load that succeeds: an answer to each frame, the last with the program's digest; what comes then is not looked at
+-- the events, from frame k on, of a load that succeeds: an answer to each frame, the last with the program's digest; what comes then is not
+-- looked at
 pub data Loads (job : Job) : ℕ → List Event → Type 0 where
   last : (k : ℕ) (es rest : List Event) → job .len ≤ placeOf k → Answer job k (job .digest) es → Loads job k (es ++ rest)
-  more : (k : ℕ) (digest : List ℕ) (es rest : List Event) → placeOf k < job .len → Answer job k digest es → Loads job (k + 1) rest → Loads job k (es ++ rest)
+  more : (k : ℕ) (digest : List ℕ) (es rest : List Event) → placeOf k < job .len → Answer job k digest es → Loads job (k + 1) rest
+      → Loads job k (es ++ rest)
 
 -- a program of one byte with frame ID 1 and a wait of two ticks, and its digest as 32 times 0xdd
 abbrev pub small : Job
@@ -60,9 +62,8 @@ lastReply = 0x33 ∷ 0x07 ∷ 0 ∷ replicate 32 0xdd ++ zeros 94
 pub record Uploads : Type 0 where
   -- no line makes a load run forever: after so many events it is over
   pub ends : (job : Job) (es : List Event) → mostEvents job ≤ length es → isOver (runs job (opening job) es .next) ≡ true
-  -- it succeeds exactly when each frame is answered so; a digest and a reply have bytes
-  pub loads : (job : Job) → length (job .digest) ≡ 32 → (es : List Event)
-      → (runs job (opening job) es .next ≡ Loaded) ↔ ((refusal (job .len) (job .id) 0 ≡ 0) × Loads job 0 es)
+  -- it succeeds exactly when each frame is answered so; the client takes no reply to a frame that it refuses
+  pub loads : (job : Job) (es : List Event) → (runs job (opening job) es .next ≡ Loaded) ↔ Loads job 0 es
   -- a frame is sent only if the client makes it, and then nothing has come of its reply
   pub first : (job : Job) → opening job .next ≡ Send → (opening job .exchange ≡ sentFrame job 0) × (refusal (job .len) (job .id) 0 ≡ 0)
   pub sends : (job : Job) (x : Exchange) (e : Event) → turned job x e .next ≡ Send
@@ -76,7 +77,8 @@ pub record Uploads : Type 0 where
       × (runs small (opening small) (Byte 0x31 ∷ Closed ∷ []) .next ≡ Failed LineClosed)
       × (runs small (opening small) (Byte 0x80 ∷ []) .next ≡ Failed UnexpectedReply)
       × (runs small (opening small) (bytesOf (0x31 ∷ 0x04 ∷ 1 ∷ 0 ∷ 0 ∷ [])) .next ≡ Failed Refused)
-      × (runs small (opening small) (bytesOf loadReply ++ bytesOf (0x33 ∷ 0x07 ∷ 0 ∷ replicate 32 0xde ++ zeros 94)) .next ≡ Failed OtherDigest)
+      × (runs small (opening small) (bytesOf loadReply ++ bytesOf (0x33 ∷ 0x07 ∷ 0 ∷ replicate 32 0xde ++ zeros 94)) .next
+      ≡ Failed OtherDigest)
   -- every message fits a text, and so does every line of progress
   pub fits : (job : Job) (x : Exchange) (f : Failure) → length (x .reply) ≡ 129 → length (messageOf job x f) ≤ 512
   pub loaded-fits : (job : Job) → length (job .digest) ≡ 32 → length (loadedLine job) ≤ 512

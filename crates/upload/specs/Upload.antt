@@ -98,11 +98,12 @@ received job x b =
     cond (ltb 128 (x .got)) (over x UnexpectedReply)
     (let y = withByte x b in cond (isWhole y) (replied job y) (turnOf y Wait))
 
+abbrev pub withSilence : Exchange → Exchange
+withSilence x = record { k = x .k; got = x .got; reply = x .reply; ticks = x .ticks - 1 }
+
 -- the last tick of silence is one too many
 unfoldable pub silent : Exchange → Turn
-silent x =
-    cond (leb (x .ticks) 1) (over x NoAnswer)
-    (turnOf (record { k = x .k; got = x .got; reply = x .reply; ticks = x .ticks - 1 }) Wait)
+silent x = cond (leb (x .ticks) 1) (over x NoAnswer) (turnOf (withSilence x) Wait)
 
 abbrev pub turned : Job → Exchange → Event → Turn
 turned job x (Byte b) = received job x b
