@@ -132,8 +132,17 @@ def garbage(line):
         line.write(b"\xff" * 512)
 
 
-def pulled(count):
-    return answering(pulled=count)
+def pulled_at(frame):
+    """The cable is pulled once so many frames are answered and the next has come."""
+
+    def peer(line):
+        for k in range(frame):
+            line.read(129)
+            line.write(server.reply(300, 0, k, 0, b""))
+        line.read(129)
+        line.pull()
+
+    return peer
 
 
 def pulled_within(line):
@@ -177,18 +186,11 @@ LINES = [
     ("another digest", at(3, lambda reply: server.reply(300, 0, 3, 0, other)), 9,
      f"the head measured another digest, {other.hex()}; it has not this program, and if it is of type 4 it has started another: "
      "reset the head and load again", 4, {}),
-    ("pulled before a reply", lambda line: (line.read(129), line.pull()), 6, f"the line closed before the reply to frame 0 (the load){CLOSED}", 1, {}),
+    ("pulled before a reply", pulled_at(0), 6, f"the line closed before the reply to frame 0 (the load){CLOSED}", 1, {}),
     ("pulled within a reply", pulled_within, 6, f"the line closed before the reply to frame 0 (the load){CLOSED}", 1, {}),
+    ("pulled at a block", pulled_at(2), 6, f"the line closed before the reply to frame 2 (block 2 of 3){CLOSED}", 3, {}),
     ("every ID", answering(), 0, MEANING, 4, {"out": loaded(PROGRAM), "id": 3}),
 ]
-
-
-def pulled_at_a_block(folder):
-    """The cable is pulled once the reply to block 1 is read; what was sent then cannot be told."""
-    path = written(folder, "pulled", PROGRAM)
-    done = play([LOAD, TTY, path, "--wait", "2"], pulled(258), SECONDS)
-    err = re.sub("/dev/pts/[0-9]+", "TTY", done.err)
-    expect("pulled", (done.status, done.out, err), (6, "", f"load: TTY: the line closed before the reply to frame 2 (block 2 of 3){CLOSED}\n"))
 
 
 def dripping(folder):
@@ -383,7 +385,7 @@ def cases():
         yield what, meets(peer, status, err, frames, **more)
     for status, err, words, prepare in REFUSED:
         yield f"refused {words}", nothing_sent(status, err, words, prepare)
-    for case in (other_required, no_room, pulled_at_a_block, dripping, full, stale, progress, rate, unreadable, in_use, usage, dies):
+    for case in (other_required, no_room, dripping, full, stale, progress, rate, unreadable, in_use, usage, dies):
         yield case.__name__, case
 
 

@@ -149,23 +149,19 @@ def echo(line):
         line.write(data)
 
 
-def answering(change=lambda k, reply: reply, ram=head.RAM_MOST, pause=0, pulled=None):
-    """A head of type 4 that sends change(k, reply) for its reply number k, from 0; with a pause before each byte, if there is one. Once it
-    has received so many bytes, and answered them, its cable is pulled."""
+def answering(change=lambda k, reply: reply):
+    """A head of type 4 that sends change(k, reply) for its reply number k, from 0."""
 
     def peer(line):
-        _, device = head.begin(head.TYPE_CLIENT.to_bytes(4, "little").ljust(head.RECORD, b"\0"), bytes(8), ram)
-        room, memory, words = bytearray(129), bytearray(ram), [0] * 8
-        replies = received = 0
+        _, device = head.begin(head.TYPE_CLIENT.to_bytes(4, "little").ljust(head.RECORD, b"\0"), bytes(8), head.RAM_MOST)
+        room, memory, words = bytearray(129), bytearray(head.RAM_MOST), [0] * 8
+        replies = 0
         while data := line.some():
             for byte in data:
                 answer = device.receive(byte, room, memory, words)
-                received += 1
                 if answer.reply:
-                    send(line, change(replies, bytes(room[: answer.reply])), pause)
+                    line.write(change(replies, bytes(room[: answer.reply])))
                     replies += 1
-                if received == pulled:
-                    return line.pull()
                 if answer.kind != "W":
                     return silent(line)
 
@@ -173,9 +169,7 @@ def answering(change=lambda k, reply: reply, ram=head.RAM_MOST, pause=0, pulled=
 
 
 def send(line, data, pause):
-    if not pause:
-        line.write(data)
-        return
+    """With a pause before each byte."""
     for byte in data:
         if not line.over.wait(pause):
             line.write(bytes([byte]))
