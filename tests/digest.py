@@ -18,6 +18,7 @@ import pty_peer
 
 TOP = Path(__file__).resolve().parent.parent
 DIGEST = TOP / "digest"
+BINARY = TOP / "target" / "bin" / "digest"
 SIZES = [0, 1, 63, 64, 65, 65535, 65536, 65537, 1000003]
 LONGEST = 2**32 - 1  # of zeros
 LONGEST_DIGEST = "5052d898d9fa18a8e256b6944071ae334835abbfa6a76a856df48f7c86a44d4b"
@@ -91,7 +92,7 @@ def unreadable(folder):
     secret.chmod(0o600)
     shutil.copy(DIGEST, folder)
     (folder / "scripts").mkdir()
-    shutil.copy(TOP / "target" / "bin" / "digest", folder / "binary")
+    shutil.copy(BINARY, folder / "binary")
     built = folder / "scripts" / "built"
     built.write_text(f'#!/bin/sh\necho "{folder}/binary"\n')
     built.chmod(0o755)
@@ -104,13 +105,26 @@ def unreadable(folder):
     return differs("no permission", nobody, 1, "", f"digest: {secret}: Permission denied\n")
 
 
+def is_waiting(name):
+    """Whether the program sleeps with this file open: in a read of it."""
+    for process in Path("/proc").glob("[0-9]*"):
+        try:
+            if os.readlink(process / "exe") == str(BINARY) and name in map(os.readlink, (process / "fd").iterdir()):
+                return (process / "stat").read_text().split()[2] == "S"
+        except OSError:
+            continue
+    return False
+
+
 def breaks_off():
     """A read that fails after another has succeeded: a terminal whose other end closes."""
     terminal = pty_peer.Terminal()
     process = started(terminal.name)
     terminal.line.write(bytes(1000))
     terminal.drain()
-    time.sleep(0.2)  # until it waits in the second read
+    end = time.monotonic() + SECONDS
+    while not is_waiting(terminal.name) and time.monotonic() < end:
+        time.sleep(0.01)
     terminal.close()
     return differs("a read that fails", process, 1, "", f"digest: {terminal.name}: Input/output error\n")
 
