@@ -1,4 +1,5 @@
 -- The theorem of specs/Theorems.antt.
+use native.Mathlib.Omega.{arith}
 use mathlib.Core.Path.{refl}
 use Rattle.framing.specs.Header.{headerAt}
 use Rattle.client.specs.Frames.{refusal}
@@ -24,6 +25,7 @@ uploads = record {
   example = (refl, refl, refl, refl, refl, refl);
   fits = λ job x f e. fits job x e f;
   loaded-fits = loaded-fits;
+  started-fits = omega arith;
   progress-fits = progress-fits;
   silent = refl;
   other = refl;

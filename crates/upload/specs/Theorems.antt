@@ -12,7 +12,7 @@ use Rattle.client.specs.Frames.{refusal}
 use Rattle.client.specs.Replies.{takingAs, taking}
 use Rattle.text.specs.Text.{ascii}
 use Rattle.upload.specs.Upload.{isOver, turnOf, sentFrame, opening, afterReply, turned, runs, mostEvents}
-use Rattle.upload.specs.Messages.{messageOf, loadedLine, progressLine}
+use Rattle.upload.specs.Messages.{messageOf, loadedLine, startedLine, progressLine}
 use Rattle.upload.specs.declared.Job.{Job}
 use Rattle.upload.specs.declared.Exchange.{Exchange}
 use Rattle.upload.specs.declared.Event.{Event}
@@ -79,9 +79,10 @@ pub record Uploads : Type 0 where
       × (runs small (opening small) (bytesOf (0x31 ∷ 0x04 ∷ 1 ∷ 0 ∷ 0 ∷ [])) .next ≡ Failed Refused)
       × (runs small (opening small) (bytesOf loadReply ++ bytesOf (0x33 ∷ 0x07 ∷ 0 ∷ replicate 32 0xde ++ zeros 94)) .next
       ≡ Failed OtherDigest)
-  -- every message fits a text, and so does every line of progress
+  -- every message fits a text, and so does every other line
   pub fits : (job : Job) (x : Exchange) (f : Failure) → length (x .reply) ≡ 129 → length (messageOf job x f) ≤ 512
   pub loaded-fits : (job : Job) → length (job .digest) ≡ 32 → length (loadedLine job) ≤ 512
+  pub started-fits : length startedLine ≤ 512
   pub progress-fits : (n done seconds : ℕ) → length (progressLine n done seconds) ≤ 512
   -- literal messages
   pub silent : messageOf small (sentFrame small 0) NoAnswer
