@@ -4,7 +4,7 @@
 Written from document 01, with hashlib for BLAKE2s; no output of ours is stored.
 
     items.py            prints the expected output of each
-    items.py --write    writes each input to sample/NAME.bin, and the example and the sample's output where the gate looks for them
+    items.py --write    writes each input to sample/NAME.bin, and the example, the sample's output and its program where they are looked for
     items.py --check    exits non-zero, and says what differs, unless these files hold what it makes
     items.py --play     plays sample/NAME.bin to headlog; exits non-zero unless every line, and how much is read, is as expected
 """
@@ -114,9 +114,13 @@ def name_with_body_4():
     return record(4) + UDS + UDI + frame(b"\x01\0\0\0"), ["F 24"]
 
 
+# The program of the sample session, which ./load takes too.
+SAMPLE_PROGRAM = b"".join(f"thread {i:03} to hook {(7 * i + 3) % 400:03}\n".encode() for i in range(20))
+
+
 def sample():
     """A head that requires a digest: queries, a frame that is passed over, a load with a user secret, and a start."""
-    program = b"".join(f"thread {i:03} to hook {(7 * i + 3) % 400:03}\n".encode() for i in range(20))
+    program = SAMPLE_PROGRAM
     received = [
         frame(b"\x01"),
         frame(b"\x08", frame_id=1),
@@ -152,6 +156,7 @@ def files():
     for name, (data, _) in ITEMS.items():
         yield SAMPLE / f"{name}.bin", data
     yield SAMPLE / "printed", text(sample()[1])
+    yield SAMPLE / "program.bin", SAMPLE_PROGRAM
     data, lines = headlog()
     yield ROOT / "crates" / "headlog" / "stdin", data
     yield ROOT / "crates" / "headlog" / "stdout", text(lines)
