@@ -358,6 +358,19 @@ def in_use(folder):
     terminal.close()
 
 
+def readme(folder):
+    """README's first example, with the terminal that there is, and its exit statuses."""
+    text = (TOP / "README.md").read_text()
+    blocks = re.findall(r"^    \$ (.*)\n((?:    .*\n)+)", text, re.M)
+    (simulation, simulated), (loading, said) = [(words, re.sub("^    ", "", lines, flags=re.M)) for words, lines in blocks[:2]]
+    expect("its commands", (simulation, loading), ("./simulate", "./load /dev/pts/3 sample/program.bin"))
+    head = Head()
+    expect("its ./load", "".join(run(head.name, TOP / "sample" / "program.bin")[1:]), said)
+    head.ends(0, simulated.removeprefix("/dev/pts/3\n"))
+    for number in range(10):
+        expect(f"status {number}", len(re.findall(rf"^\| {number} \| .*$", text.split("## A red lamp")[0], re.M)), 1)
+
+
 def usage(folder):
     status, out, err = run("--help")
     expect("--help", (status, out[:14], err), (0, "usage: ./load ", ""))
@@ -385,7 +398,7 @@ def cases():
         yield what, meets(peer, status, err, frames, **more)
     for status, err, words, prepare in REFUSED:
         yield f"refused {words}", nothing_sent(status, err, words, prepare)
-    for case in (other_required, no_room, dripping, full, stale, progress, rate, unreadable, in_use, usage, dies):
+    for case in (other_required, no_room, dripping, full, stale, progress, rate, unreadable, in_use, readme, usage, dies):
         yield case.__name__, case
 
 
