@@ -5,15 +5,18 @@ Every case looks at exit status, standard output, standard error and every byte 
 client (server.py). The cases run beside each other.
 """
 import concurrent.futures
+import fcntl
 import itertools
 import os
 import random
 import re
 import shutil
 import signal
+import struct
 import subprocess
 import sys
 import tempfile
+import termios
 import time
 from pathlib import Path
 
@@ -316,7 +319,7 @@ REFUSED = [
     (2, f"{ARGUMENT}--wait: '0' is not a number of seconds from 0.1 to 3600{SEE}", ["LINE", "FOLDER/program", "--wait", "0"], file_of("x", 1)),
     (2, f"{ARGUMENT}--wait: '3601' is not a number of seconds from 0.1 to 3600{SEE}", ["LINE", "FOLDER/program", "--wait", "3601"], file_of("x", 1)),
     (2, f"{ARGUMENT}--wait: 'x' is not a number of seconds from 0.1 to 3600{SEE}", ["LINE", "FOLDER/program", "--wait", "x"], file_of("x", 1)),
-    (2, f"{ARGUMENT}--speed: '12345' is not a speed that a serial line can have{SEE}", ["LINE", "FOLDER/program", "--speed", "12345"], file_of("x", 1)),
+    (2, f"{ARGUMENT}--speed: '9.6' is not a number of bits a second{SEE}", ["LINE", "FOLDER/program", "--speed", "9.6"], file_of("x", 1)),
     (2, f"load: unrecognized arguments: more{SEE}", ["LINE", "FOLDER/program", "more"], file_of("x", 1)),
 ]
 
@@ -356,6 +359,24 @@ def in_use(folder):
         expect("the next frame", terminal.line.read(129 - 129 * k, 1), server.frame(b"x", 0, None, 1) if k == 0 else b"")
     expect("the first", (first.communicate(timeout=SECONDS)[0].decode(), first.returncode), (loaded(b"x"), 0))
     terminal.close()
+
+
+def speed(folder):
+    """The line has the speed that is given, also one without a name, and is raw: a read gives what there is within a tenth of a second."""
+    terminal, ends = Terminal(), os.openpty()
+    cooked = termios.tcgetattr(ends[1])
+    termios.tcsetattr(terminal.slave, termios.TCSANOW, cooked)
+    expect("status", run(terminal.name, written(folder, "fast", b"x"), "--speed", "62500", "--wait", "0.1")[0], 5)
+    mode = struct.unpack("4I20s2I", fcntl.ioctl(terminal.slave, 0x802C542A, bytes(44)))
+    expect("speeds", mode[5:], (62500, 62500))
+    off = (termios.ICRNL | termios.IXON | termios.ISTRIP, termios.OPOST, termios.CRTSCTS | termios.PARENB, termios.ECHO | termios.ICANON | termios.ISIG)
+    expect("flags that are off", [flags & bits for flags, bits in zip(mode, off)], [0, 0, 0, 0])
+    expect("eight bits, and no carrier needed", mode[2] & (termios.CSIZE | termios.CLOCAL | termios.CREAD), termios.CS8 | termios.CLOCAL | termios.CREAD)
+    expect("least bytes and tenths", (mode[4][1 + termios.VMIN], mode[4][1 + termios.VTIME]), (0, 1))
+    expect("it was not raw before", bool(cooked[3] & termios.ICANON), True)
+    terminal.close()
+    for fd in ends:
+        os.close(fd)
 
 
 def readme(folder):
@@ -398,7 +419,7 @@ def cases():
         yield what, meets(peer, status, err, frames, **more)
     for status, err, words, prepare in REFUSED:
         yield f"refused {words}", nothing_sent(status, err, words, prepare)
-    for case in (other_required, no_room, dripping, full, stale, progress, rate, unreadable, in_use, readme, usage, dies):
+    for case in (other_required, no_room, dripping, full, stale, progress, rate, unreadable, in_use, speed, readme, usage, dies):
         yield case.__name__, case
 
 
