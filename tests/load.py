@@ -4,7 +4,6 @@
 Every case looks at exit status, standard output, standard error and every byte that was sent, which is compared with the independent
 client (server.py). The cases run beside each other.
 """
-import concurrent.futures
 import fcntl
 import itertools
 import os
@@ -25,7 +24,7 @@ import server
 import simulate
 from head import RAM_MOST, blake2s
 from pty_peer import TTY, Terminal, answering, echo, play, silent
-from simulate import Head, Wrong, expect, shown, started
+from simulate import Head, expect, shown, started
 
 TOP = Path(__file__).resolve().parent.parent
 LOAD = TOP / "load"
@@ -335,11 +334,11 @@ def unreadable(folder):
         expect("no permission", run(terminal.name, path), wanted)
         return
     top = folder / "nobody's"
-    (top / "scripts").mkdir(parents=True)
+    top.mkdir()
     shutil.copy(LOAD, top)
+    shutil.copytree(TOP / "scripts", top / "scripts")
     shutil.copy(TOP / "target" / "bin" / "load", top / "binary")
-    (top / "scripts" / "built").write_text(f"#!/bin/sh\necho \"{top}/binary\"\n")
-    (top / "scripts" / "built").chmod(0o755)
+    (top / "scripts" / "built").write_text(f'#!/bin/sh\necho "{top}/binary"\n')
     folder.chmod(0o755)
     words = ["setpriv", "--reuid", "65534", "--regid", "65534", "--clear-groups", top / "load", terminal.name, path]
     done = subprocess.run(words, stdin=subprocess.DEVNULL, capture_output=True, timeout=SECONDS)
@@ -423,25 +422,5 @@ def cases():
         yield case.__name__, case
 
 
-def wrong(what, case, folder):
-    try:
-        case(folder)
-    except (Wrong, OSError, subprocess.TimeoutExpired) as error:
-        print(f"load: {what}: {error}", file=sys.stderr)
-        return 1
-    return 0
-
-
-def main():
-    for name in ("load", "simulate"):
-        subprocess.run([TOP / "scripts" / "built", name], check=True, stdout=subprocess.DEVNULL)
-    with tempfile.TemporaryDirectory() as name, concurrent.futures.ThreadPoolExecutor(4) as pool:
-        runs = [pool.submit(wrong, what, case, Path(name)) for what, case in cases()]
-        failed = sum(run.result() for run in runs)
-    if failed == 0:
-        print(f"load: {len(runs)} cases as expected")
-    return int(failed > 0)
-
-
 if __name__ == "__main__":
-    sys.exit(main())
+    sys.exit(simulate.run_all(cases(), "load", "simulate"))

@@ -242,6 +242,14 @@ def bad(options):
     return case
 
 
+def readme(folder):
+    """README's table has the words of each stop."""
+    rows = (TOP / "README.md").read_text().splitlines()
+    for number, line in STOPS.items():
+        words = line.removeprefix(f"stopped {number}: ").rstrip("\n")
+        expect(f"rows of stop {number}", len([row for row in rows if row.startswith(f"| {number} | {words} | ")]), 1)
+
+
 def usage(folder):
     done = subprocess.run([SIMULATE, "--help"], capture_output=True, timeout=SECONDS)
     expect("--help", (done.returncode, done.stdout[:18], done.stderr), (0, b"usage: ./simulate ", b""))
@@ -250,11 +258,11 @@ def usage(folder):
 def not_built(folder):
     """The log of a build that fails, and status 1."""
     top = folder / "a copy"
-    for part in ("scripts", "crates", "bin"):
+    for part in ("crates", "bin"):
         (top / part).mkdir(parents=True)
     (top / "crates.txt").touch()
     shutil.copy(SIMULATE, top)
-    shutil.copy(TOP / "scripts" / "built", top / "scripts")
+    shutil.copytree(TOP / "scripts", top / "scripts")
     (top / "bin" / "rt").write_text("#!/bin/sh\necho not proved\nexit 1\n")
     (top / "bin" / "rt").chmod(0o755)
     environment = {**os.environ, "PATH": f"{top}/bin:{os.environ['PATH']}"}
@@ -278,7 +286,7 @@ def cases():
         yield what, lambda folder, given=(seed, size, kind, chained, secret): load(folder, *given)
     for case in (no_room, opened_often, read_late, never_read, other_digest, stops_while_loading, terminal_start, terminal_stop):
         yield case.__name__, case
-    for case in (usage, not_built, dies):
+    for case in (readme, usage, not_built, dies):
         yield case.__name__, case
     yield "stop 22", stops(22, b"\x90")
     yield "stop 22 after a query", stops(22, b"\x14")
@@ -292,20 +300,21 @@ def wrong(what, case, folder):
     try:
         case(folder)
     except (Wrong, OSError, subprocess.TimeoutExpired) as error:
-        print(f"simulate: {what}: {error}", file=sys.stderr)
+        print(f"{what}: {error}", file=sys.stderr)
         return 1
     return 0
 
 
-def main():
-    subprocess.run([TOP / "scripts" / "built", "simulate"], check=True, stdout=subprocess.DEVNULL)
+def run_all(cases, *programs):
+    """Builds the programs, runs the cases, four beside each other, and gives the exit status."""
+    for name in programs:
+        subprocess.run([TOP / "scripts" / "built", name], check=True, stdout=subprocess.DEVNULL)
     with tempfile.TemporaryDirectory() as name, concurrent.futures.ThreadPoolExecutor(4) as pool:
-        runs = [pool.submit(wrong, what, case, Path(name)) for what, case in cases()]
+        runs = [pool.submit(wrong, what, case, Path(name)) for what, case in cases]
         failed = sum(run.result() for run in runs)
-    if failed == 0:
-        print(f"simulate: {len(runs)} cases as expected")
+    print(f"{len(runs)} cases, {failed} not as expected")
     return int(failed > 0)
 
 
 if __name__ == "__main__":
-    sys.exit(main())
+    sys.exit(run_all(cases(), "simulate"))

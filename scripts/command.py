@@ -1,0 +1,57 @@
+"""What the commands at the top share: bad arguments, a program that is built if need be, and one that is run for its number."""
+import argparse
+import fcntl
+import os
+import signal
+import subprocess
+import sys
+
+TOP = os.path.dirname(os.path.dirname(os.path.realpath(__file__)))
+FAILED, BAD_ARGUMENTS = 1, 2
+
+
+class Parser(argparse.ArgumentParser):
+    """Bad arguments are one line."""
+
+    def __init__(self, name, description):
+        self.name = name
+        layout = argparse.RawDescriptionHelpFormatter
+        super().__init__(prog=f"./{name}", description=description, formatter_class=layout, allow_abbrev=False)
+
+    def error(self, message):
+        self.exit(BAD_ARGUMENTS, f"{self.name}: {message}; see ./{self.name} --help\n")
+
+
+def built(name):
+    """The path of a program, proved and built if it is not there yet; where that fails, the command ends."""
+    done = subprocess.run([os.path.join(TOP, "scripts", "built"), name], stdin=subprocess.DEVNULL, stdout=subprocess.PIPE)
+    if done.returncode != 0:
+        sys.exit(FAILED)
+    return os.fsdecode(done.stdout).removesuffix("\n")
+
+
+def run(program, words, places):
+    """Runs a program with these words, and with the descriptor places[n] as its descriptor n: the number that it writes to descriptor 3, or
+    none if it died. It ends with the command."""
+    out, number = os.pipe()
+    high = {place: fcntl.fcntl(fd, fcntl.F_DUPFD_CLOEXEC, 10) for place, fd in {**places, 3: number}.items()}
+    actions = [(os.POSIX_SPAWN_DUP2, fd, place) for place, fd in high.items()]
+    child = os.posix_spawn(program, [program, *words], os.environ, file_actions=actions)
+    for fd in [number, *high.values()]:
+        os.close(fd)
+    try:
+        with os.fdopen(out) as file:
+            digits = file.read()
+    finally:
+        os.kill(child, signal.SIGKILL)
+        os.waitpid(child, 0)
+    return int(digits) if digits else None
+
+
+def main(command):
+    """Exits with what a command gives, and on an interrupt as a shell does."""
+    signal.signal(signal.SIGTERM, lambda number, frame: sys.exit(128 + number))
+    try:
+        sys.exit(command())
+    except KeyboardInterrupt:
+        sys.exit(128 + signal.SIGINT)
