@@ -25,17 +25,21 @@ fn run() -> u32 {
     let mut program = [0u8; 131073];
     let mut name = io::buffer();
     let n = os::arg(2, &mut name);
-    let Contents::Bytes(len) = files::read(&name[..n], &mut program) else {
-        return files::fail(&name[..n]);
-    };
-    let bytes = files::first(&program, len);
-    let job = job_of(bytes);
+    match files::read(&name[..n], &mut program) {
+        Contents::Unreadable => files::fail(&name[..n]),
+        Contents::Bytes(len) => begin(&name[..n], files::first(&program, len)),
+    }
+}
+
+// The program is read: looks at what is to be loaded before anything else.
+fn begin(name: &[u8], program: &[u8]) -> u32 {
+    let job = job_of(program);
     let t = upload::open(job);
     let next = t.next;
     if upload::is_over(next) {
-        return conclude(&name[..n], job, t);
+        return conclude(name, job, t);
     }
-    with_secret(bytes, job)
+    with_secret(program, job)
 }
 
 // What is to be loaded, with the program's digest.
@@ -55,16 +59,18 @@ fn with_secret(program: &[u8], job: Job) -> u32 {
     if os::arg_count() < 6 {
         return load(program, job, files::no_secret());
     }
+    let mut file = [0u8; 33];
     let mut name = io::buffer();
     let n = os::arg(5, &mut name);
-    let mut file = [0u8; 33];
-    let Contents::Bytes(len) = files::read(&name[..n], &mut file) else {
-        return files::fail(&name[..n]);
-    };
-    if len != 32 {
-        return files::say(&name[..n], job, upload::open(job), Failure::SecretLength);
+    match files::read(&name[..n], &mut file) {
+        Contents::Unreadable => files::fail(&name[..n]),
+        Contents::Bytes(len) => {
+            if len != 32 {
+                return files::say(&name[..n], job, upload::open(job), Failure::SecretLength);
+            }
+            load(program, job, files::secret_in(file))
+        }
     }
-    load(program, job, files::secret_in(file))
 }
 
 // Loads, and says how it went.
