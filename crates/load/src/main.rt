@@ -1,7 +1,7 @@
-// Loads a program into the head on a serial line. What is sent and taken is proved in crate `client`, what is done next and what is said in
-// crate `upload`. What no contract can say is left to this program: that it hands over the bytes that it reads, in order, and sends each frame.
-// The script ./load opens the line: on descriptor 4 a read waits a tick, a tenth of a second, for a byte, and on 5 a write never waits. A
-// Rattle program has no exit status: its number goes to descriptor 3.
+// Loads a program into the head on a serial line. What is sent and taken is proved in crate `client`, what is done next in `upload`, what
+// is said in `messages`. What no contract can say is left to this program: that it hands over the bytes that it reads, in order, and sends
+// each frame. The script ./load opens the line: on descriptor 4 a read waits a tick, a tenth of a second, for a byte, and on 5 a write never
+// waits. A Rattle program has no exit status: its number goes to descriptor 3.
 mod files;
 mod line;
 
@@ -28,7 +28,7 @@ fn run() -> u32 {
     let Contents::Bytes(len) = files::read(&name[..n], &mut program) else {
         return files::fail(&name[..n]);
     };
-    let bytes = files::first(&program, len);
+    let bytes = endian::first(&program, len);
     let job = job_of(bytes);
     let t = upload::open(job);
     let next = t.next;
@@ -84,8 +84,8 @@ fn conclude(name: &[u8], job: Job, t: Turn) -> u32 {
     match next {
         Next::Failed(why) => files::say(name, job, t, why),
         _ => {
-            text::write(STDOUT_FILENO, upload::loaded(job));
-            text::write(STDERR_FILENO, upload::started());
+            text::write(STDOUT_FILENO, messages::loaded(job));
+            text::write(STDERR_FILENO, messages::started());
             0
         }
     }
