@@ -17,12 +17,7 @@ pub fn load_often(size: u32, times: u32) -> Loaded {
     let mut bytes = [0u8; 133386];
     let mut ram = [0u8; 131072];
     frames::fill(size, &mut bytes);
-    repeat(first(&bytes, frames::length(size)), times, &mut ram)
-}
-
-// The first n bytes. No caller asks for more than there are, and the test spares the proof of it.
-fn first(s: &[u8], n: usize) -> &[u8] {
-    if n <= s.len() { &s[..n] } else { s }
+    repeat(endian::first(&bytes, frames::length(size)), times, &mut ram)
 }
 
 fn repeat(bytes: &[u8], times: u32, ram: &mut [u8]) -> Loaded {

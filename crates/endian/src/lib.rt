@@ -2,7 +2,7 @@
 ghost use mathlib.Core.Path.{_≡_};
 ghost use mathlib.Core.List.{[], _∷_};
 ghost use Prim.Native.Nat.{_/_, _%_};
-ghost use lib.ListN.{getD, length};
+ghost use lib.ListN.{getD, length, take};
 ghost use Rattle.endian.specs.Lists.{zeros, same};
 ghost use Rattle.endian.specs.Endian.{word, byteOf, firstBytes};
 
@@ -62,4 +62,11 @@ pub fn equal(a: &[u8], b: &[u8]) -> bool
     ensures { λ r. ⌜ r ≡ same (now (a .entry)) (now (b .entry)) ⌝ }
 {
     check::same(a, b)
+}
+
+// The first n bytes, or all if there are fewer.
+pub fn first(s: &[u8], n: usize) -> &[u8]
+    ensures { λ r. ⌜ now r ≡ take n (now (s .entry)) ⌝ }
+{
+    if n <= s.len() { &s[..n] } else { s }
 }

@@ -31,11 +31,6 @@ pub fn read(name: &[u8], buf: &mut [u8]) -> Contents {
     Contents::Bytes(n)
 }
 
-// The first n bytes. No caller asks for more than there are, and the test spares each the proof of it.
-pub fn first(s: &[u8], n: usize) -> &[u8] {
-    if n <= s.len() { &s[..n] } else { s }
-}
-
 pub fn no_secret() -> Secret {
     Secret {
         used: false,
@@ -106,7 +101,7 @@ fn begin_line(name: &[u8]) {
 pub fn say(name: &[u8], job: Job, t: Turn, why: Failure) -> u32 {
     let x = t.exchange;
     begin_line(name);
-    text::write(STDERR_FILENO, upload::message(job, x, why));
+    text::write(STDERR_FILENO, messages::message(job, x, why));
     io::write_all(STDERR_FILENO, b"\n");
     upload::exit_number(why)
 }

@@ -80,7 +80,7 @@ fn show(terminal: bool, len: usize, k: u32, next: Next, began: u64) {
 }
 
 fn show_progress(len: usize, done: u32, began: u64) {
-    text::write(STDERR_FILENO, upload::progress(len, done, since(began)));
+    text::write(STDERR_FILENO, messages::progress(len, done, since(began)));
 }
 
 // A number that is not below 0; 0 for one that is.

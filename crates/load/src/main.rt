@@ -27,7 +27,7 @@ fn run() -> u32 {
     let n = os::arg(2, &mut name);
     match files::read(&name[..n], &mut program) {
         Contents::Unreadable => files::fail(&name[..n]),
-        Contents::Bytes(len) => begin(&name[..n], files::first(&program, len)),
+        Contents::Bytes(len) => begin(&name[..n], endian::first(&program, len)),
     }
 }
 
@@ -90,8 +90,8 @@ fn conclude(name: &[u8], job: Job, t: Turn) -> u32 {
     match next {
         Next::Failed(why) => files::say(name, job, t, why),
         _ => {
-            text::write(STDOUT_FILENO, upload::loaded(job));
-            text::write(STDERR_FILENO, upload::started());
+            text::write(STDOUT_FILENO, messages::loaded(job));
+            text::write(STDERR_FILENO, messages::started());
             0
         }
     }

@@ -1,8 +1,7 @@
 // The lines that are printed, as texts: document 01, "Session printer". Each has its end of line.
 ghost use mathlib.Core.Path.{_≡_};
-ghost use mathlib.Core.List.{List, [], _∷_, _++_};
-ghost use Prim.Native.Nat.{ℕ, _≤_};
-ghost use lib.ListN.{length, take};
+ghost use mathlib.Core.List.{[], _∷_, _++_};
+ghost use lib.ListN.{take};
 ghost use Rattle.head.specs.Answers.{reportOf};
 ghost use Rattle.text.specs.Text.{decimalOf, added, textOf};
 ghost use Rattle.printer.specs.Lines.{replyLine, startLine, endLine};
@@ -23,23 +22,12 @@ pub fn numbered(t: Text, b: u8, n: u64) -> Text
     text::put(text::put_decimal(letter(t, b), n), b'\n')
 }
 
-// n, or 129 if that is less.
-fn within_room(n: usize) -> usize
-    ensures fits { λ r. ⌜ r ≤ 129 ⌝ }
-    ensures same { λ r. ⌜ ((room : List ℕ) → length room ≡ 129 → take r room ≡ take n room) ⌝ }
-{
-    if n < 129 { n } else { 129 }
-}
-
 // A reply: the first n bytes of the room.
 pub fn reply_line(room: [u8; 129], n: usize) -> Text
     ensures { λ r. ⌜ r ≡ textOf (replyLine (take n room)) ⌝ }
 {
-    let k = within_room(n);
-    text::put(
-        text::put_hex(letter(text::empty(), b'R'), &room[..k]),
-        b'\n',
-    )
+    let begun = letter(text::empty(), b'R');
+    text::put(text::put_hex(begun, endian::first(&room, n)), b'\n')
 }
 
 // A start.

@@ -32,7 +32,7 @@ fn begin(c: [u8; 320]) -> Context {
     let n = c[1] as usize;
     let size = c[2] as usize;
     let set = c[3] != 0;
-    let next = blake2s::begin(image::first(&c[8..], n), size);
+    let next = blake2s::begin(endian::first(&c[8..], n), size);
     let answer = next.answer;
     let mut x = next.context;
     if set {
@@ -45,7 +45,7 @@ fn begin(c: [u8; 320]) -> Context {
 // Byte 1 says how many bytes the part has, which stands from byte 8 on.
 fn update(x: Context, c: [u8; 320]) -> Context {
     let n = c[1] as usize;
-    let next = blake2s::update(x, image::first(&c[8..], n));
+    let next = blake2s::update(x, endian::first(&c[8..], n));
     let answer = next.answer;
     let context = next.context;
     write_next(answer, context);

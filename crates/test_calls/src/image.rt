@@ -40,11 +40,6 @@ pub fn udi(c: [u8; 320], at: usize) -> [u8; 8]
     p
 }
 
-// The first n bytes of a part. No caller asks for more than there are, and the test spares each the proof of it.
-pub fn first(s: &[u8], n: usize) -> &[u8] {
-    if n <= s.len() { &s[..n] } else { s }
-}
-
 fn body(c: [u8; 320]) -> [u8; 128] {
     let mut p = [0u8; 128];
     bytes::copy(&c[46..174], &mut p);

@@ -43,7 +43,7 @@ fn begin(k: Kept, c: [u8; 320]) -> Kept {
     let n = length(c[4], c[5], 257);
     let udi = image::udi(c, 276);
     let ram_len = image::length(c, 268);
-    let b = loader::begin(image::first(&c[8..], n), udi, ram_len);
+    let b = loader::begin(endian::first(&c[8..], n), udi, ram_len);
     let answer = b.answer;
     let state = b.state;
     let ram = k.ram;

@@ -12,8 +12,8 @@ use Rattle.framing.specs.Header.{headerAt, bodyLen}
 use Rattle.framing.proofs.Headers.{body-small}
 use Rattle.protocol.specs.Commands.{placeOf}
 use Rattle.client.specs.Replies.{takingAs, taking}
-use Rattle.upload.specs.Upload.{isOver, turnOf, sentFrame, afterReply, onward, replied, isWhole, received, silent, runs}
-use Rattle.upload.specs.Theorems.{bytesOf, Heard, nothing, byte, silence, Answer, Loads, last, more}
+use Rattle.upload.specs.Upload.{isOver, turnOf, sentFrame, afterReply, onward, replied, isWhole, received, silent, bytesOf, runs}
+use Rattle.upload.specs.Theorems.{Heard, nothing, byte, silence, Answer, Loads, last, more}
 use Rattle.upload.proofs.Held.{held, bodyOf, came, one-more, whole-is}
 use Rattle.upload.specs.declared.Job.{Job}
 use Rattle.upload.specs.declared.Exchange.{Exchange}

@@ -2,7 +2,6 @@ pub mod Replies
 pub mod Turns
 pub mod Ends
 pub mod Sends
-pub mod Lengths
 pub mod Held
 pub mod Answered
 pub mod Loads

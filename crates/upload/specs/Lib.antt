@@ -1,3 +1,2 @@
 pub mod Upload
-pub mod Messages
 pub mod Theorems

@@ -10,21 +10,13 @@ use Rattle.framing.specs.Header.{headerAt, bodyLen}
 use Rattle.protocol.specs.Commands.{placeOf}
 use Rattle.client.specs.Frames.{refusal}
 use Rattle.client.specs.Replies.{takingAs, taking}
-use Rattle.text.specs.Text.{ascii}
-use Rattle.upload.specs.Upload.{isOver, turnOf, sentFrame, opening, afterReply, turned, runs, mostEvents}
-use Rattle.upload.specs.Messages.{messageOf, loadedLine, startedLine, progressLine}
+use Rattle.upload.specs.Upload.{isOver, turnOf, sentFrame, opening, afterReply, turned, bytesOf, runs, mostEvents}
 use Rattle.upload.specs.declared.Job.{Job}
 use Rattle.upload.specs.declared.Exchange.{Exchange}
 use Rattle.upload.specs.declared.Event.{Event}
 use Rattle.upload.specs.declared.Event.the-variants.{Byte, Silence, Closed}
-use Rattle.upload.specs.declared.Failure.{Failure}
 use Rattle.upload.specs.declared.Failure.the-variants.{NoAnswer, LineClosed, UnexpectedReply, Refused, OtherDigest}
 use Rattle.upload.specs.declared.Next.the-variants.{Send, Loaded, Failed}
-
--- the events of bytes, with no silence between them
-abbrev pub bytesOf : List ℕ → List Event
-bytesOf [] = []
-bytesOf (b ∷ r) = Byte b ∷ bytesOf r
 
 -- these bytes in this order, with so many ticks of silence before or between them
 pub data Heard : List ℕ → ℕ → List Event → Type 0 where
@@ -79,14 +71,3 @@ pub record Uploads : Type 0 where
       × (runs small (opening small) (bytesOf (0x31 ∷ 0x04 ∷ 1 ∷ 0 ∷ 0 ∷ [])) .next ≡ Failed Refused)
       × (runs small (opening small) (bytesOf loadReply ++ bytesOf (0x33 ∷ 0x07 ∷ 0 ∷ replicate 32 0xde ++ zeros 94)) .next
       ≡ Failed OtherDigest)
-  -- every message fits a text, and so does every other line
-  pub fits : (job : Job) (x : Exchange) (f : Failure) → length (x .reply) ≡ 129 → length (messageOf job x f) ≤ 512
-  pub loaded-fits : (job : Job) → length (job .digest) ≡ 32 → length (loadedLine job) ≤ 512
-  pub started-fits : length startedLine ≤ 512
-  pub progress-fits : (n done seconds : ℕ) → length (progressLine n done seconds) ≤ 512
-  -- literal messages
-  pub silent : messageOf small (sentFrame small 0) NoAnswer
-      ≡ ascii "no answer to frame 0 (the load) in 0.2 s; is the head waiting for a program? has it stopped?"
-  pub other : messageOf small (record { k = 1; got = 5; reply = 0x31 ∷ 0x06 ∷ zeros 127; ticks = 2 }) UnexpectedReply
-      ≡ ascii "the reply to frame 1 (block 1 of 1) is not the expected one (43), its header differs: 3106000000; reset the head and load again"
-  pub half : progressLine 254 1 2 ≡ 13 ∷ ascii "[################................] 1 of 2 blocks, 50%, 63 bytes/s" ++ 27 ∷ ascii "[K"

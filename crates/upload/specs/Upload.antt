@@ -112,6 +112,11 @@ turned job x Closed = over x LineClosed
 
 -- ---- a whole load
 
+-- the events of bytes, with no silence between them
+abbrev pub bytesOf : List ℕ → List Event
+bytesOf [] = []
+bytesOf (b ∷ r) = Byte b ∷ bytesOf r
+
 -- from a turn on, until one is over
 abbrev pub runs : Job → Turn → List Event → Turn
 runs job t [] = t

@@ -1,16 +1,12 @@
-// The laptop's half of a load, event by event: what `./load` does next, and what it says. Nothing here reads or writes; the program `load`
-// does. What is sent and what is taken is `client`'s; in specs/, Upload says when, Messages in which words.
-mod messages;
+// The laptop's half of a load, event by event: what `./load` does next. Nothing here reads or writes; the program `load` does. What is sent
+// and what is taken is `client`'s; specs/Upload.antt says when.
 mod steps;
 
 ghost use mathlib.Core.Path.{_≡_};
 ghost use Rattle.upload.specs.Upload.{isOver, exitNumber};
-pub use messages::loaded;
-pub use messages::message;
-pub use messages::progress;
-pub use messages::started;
 pub use steps::advance;
 pub use steps::open;
+pub use steps::read;
 
 // What is to be loaded, and how.
 pub struct Job {

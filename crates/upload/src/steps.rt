@@ -1,10 +1,7 @@
 // What is done next.
 ghost use mathlib.Core.Path.{_≡_};
-ghost use mathlib.Core.List.{List};
-ghost use Prim.Native.Nat.{ℕ, _≤_};
-ghost use lib.ListN.{length, take};
 ghost use Rattle.upload.specs.Upload.{sentFrame, opening, turnOf, over, cameOf, afterLast, replied, received, silent, turned};
-ghost use Rattle.client.specs.Replies.{takingOf, taking, differing};
+ghost use Rattle.client.specs.Replies.{takingOf, taking};
 use super::Event;
 use super::Exchange;
 use super::Failure;
@@ -12,7 +9,6 @@ use super::Job;
 use super::Next;
 use super::Turn;
 use client::Answer;
-use client::Difference;
 use client::Taken;
 
 // Frame k, of whose reply nothing has come.
@@ -54,30 +50,12 @@ pub fn open(job: Job) -> Turn
     }
 }
 
-// So many bytes of a reply, or 129 if that is less.
-pub fn came(n: usize) -> usize
-    ensures fits { λ r. ⌜ r ≤ 129 ⌝ }
-    ensures same { λ r. ⌜ ((reply : List ℕ) → length reply ≡ 129 → take r reply ≡ take n reply) ⌝ }
-{
-    if n < 129 { n } else { 129 }
-}
-
 // The reply as the client reads it.
 pub fn read(job: Job, x: Exchange) -> Taken
     ensures { λ r. ⌜ takingOf r ≡ taking (job .len) (job .id) (x .k) (cameOf x) ⌝ }
 {
-    let n = came(x.got);
     let bytes = x.reply;
-    client::read_reply(job.len, job.id, x.k, &bytes[..n])
-}
-
-// And in what it differs from the expected one.
-pub fn difference(job: Job, x: Exchange) -> Difference
-    ensures { λ r. ⌜ r ≡ differing (job .len) (job .id) (x .k) (cameOf x) ⌝ }
-{
-    let n = came(x.got);
-    let bytes = x.reply;
-    client::reply_difference(job.len, job.id, x.k, &bytes[..n])
+    client::read_reply(job.len, job.id, x.k, endian::first(&bytes, x.got))
 }
 
 // The reply is whole.
