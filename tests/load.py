@@ -168,7 +168,8 @@ LINES = [
     ("silence", silent, 5, f"no answer to frame 0 (the load) in 0.5 s{WAITING}", 1, {}),
     ("silence at a block", at(2, lambda reply: b""), 5, f"no answer to frame 2 (block 2 of 3) in 0.5 s{WAITING}", 3, {}),
     ("a second of silence", silent, 5, f"no answer to frame 0 (the load) in 1 s{WAITING}", 1, {"wait": "1"}),
-    ("a truncated reply", at(1, lambda reply: reply[:3]), 5, f"only 110600 came in answer to frame 1 (block 1 of 3) in 0.5 s{WAITING}", 2, {}),
+    ("a truncated reply", at(1, lambda reply: reply[:3]), 5,
+     f"only 110600 came in answer to frame 1 (block 1 of 3) in 0.5 s{WAITING}", 2, {}),
     ("a truncated last reply", at(3, lambda reply: reply[:128]), 5,
      f"only {last[:128].hex()} came in answer to frame 3 (block 3 of 3) in 0.5 s{WAITING}", 4, {}),
     ("an echo", echo, 7, unexpected(0, "header", server.frame(PROGRAM, 0, None, 0).hex()), 1, {}),
@@ -274,7 +275,7 @@ def rate(folder):
 # ---- nothing is sent
 
 
-def nothing_sent(status, err, words, prepare=lambda folder: None):
+def nothing_sent(status, err, words, prepare):
     """./load with these words, LINE standing for a terminal, ends so, and the terminal's other end hears nothing."""
 
     def case(folder):
@@ -295,31 +296,53 @@ def file_of(name, size):
     return lambda folder: (written(folder, "program", b"program"), written(folder, name, bytes(size)))
 
 
-ARGUMENT = "load: argument "
-SEE = "; see ./load --help\n"
+def program(status, name, why, size=None):
+    """A program of this name, and of this size if it is there."""
+    return status, f"load: {name}: {why}\n", ["LINE", name], file_of("it", size) if size is not None else nothing
+
+
+def secret(name, why, size=0):
+    return 3, f"load: {name}: {why}\n", ["LINE", "FOLDER/program", "--secret", name], file_of("it", size)
+
+
+def device(name, why):
+    return 4, f"load: {name}: {why}\n", [name, "FOLDER/program"], file_of("x", 1)
+
+
+def argument(option, value, why):
+    return 2, f"load: argument {option}: {value!r} is not {why}; see ./load --help\n", ["LINE", "FOLDER/program", option, value], file_of("x", 1)
+
+
+def nothing(folder):
+    pass
+
+
+MISSING = "cannot be read: No such file or directory"
+SECONDS_WORDS = "a number of seconds from 0.1 to 3600"
 REFUSED = [
-    (3, "load: FOLDER/no: cannot be read: No such file or directory\n", ["LINE", "FOLDER/no"], lambda folder: None),
-    (3, "load: FOLDER: cannot be read: Is a directory\n", ["LINE", "FOLDER"], lambda folder: None),
-    (3, "load: : cannot be read: No such file or directory\n", ["LINE", ""], lambda folder: None),
-    (3, "load: FOLDER/empty: has no byte; a program has 1 to 131072\n", ["LINE", "FOLDER/empty"], file_of("empty", 0)),
-    (3, "load: FOLDER/long: is too long; a program has 1 to 131072 bytes\n", ["LINE", "FOLDER/long"], file_of("long", RAM_MOST + 1)),
-    (3, "load: FOLDER/31: a user secret has exactly 32 bytes\n", ["LINE", "FOLDER/program", "--secret", "FOLDER/31"], file_of("31", 31)),
-    (3, "load: FOLDER/33: a user secret has exactly 32 bytes\n", ["LINE", "FOLDER/program", "--secret", "FOLDER/33"], file_of("33", 33)),
-    (3, "load: FOLDER/0: a user secret has exactly 32 bytes\n", ["LINE", "FOLDER/program", "--secret", "FOLDER/0"], file_of("0", 0)),
-    (3, "load: FOLDER/no: cannot be read: No such file or directory\n", ["LINE", "FOLDER/program", "--secret", "FOLDER/no"], file_of("x", 1)),
-    (3, "load: FOLDER: cannot be read: Is a directory\n", ["LINE", "FOLDER/program", "--secret", "FOLDER"], file_of("x", 1)),
-    (4, "load: FOLDER/no: No such file or directory\n", ["FOLDER/no", "FOLDER/program"], file_of("x", 1)),
-    (4, "load: FOLDER/x: is not a serial line\n", ["FOLDER/x", "FOLDER/program"], file_of("x", 1)),
-    (4, "load: /dev/null: is not a serial line\n", ["/dev/null", "FOLDER/program"], file_of("x", 1)),
-    (4, "load: FOLDER: Is a directory\n", ["FOLDER", "FOLDER/program"], file_of("x", 1)),
-    (2, f"load: the following arguments are required: DEVICE, PROGRAM{SEE}", [], lambda folder: None),
-    (2, f"{ARGUMENT}--id: '4' is not 0, 1, 2 or 3{SEE}", ["LINE", "FOLDER/program", "--id", "4"], file_of("x", 1)),
-    (2, f"{ARGUMENT}--id: '' is not 0, 1, 2 or 3{SEE}", ["LINE", "FOLDER/program", "--id", ""], file_of("x", 1)),
-    (2, f"{ARGUMENT}--wait: '0' is not a number of seconds from 0.1 to 3600{SEE}", ["LINE", "FOLDER/program", "--wait", "0"], file_of("x", 1)),
-    (2, f"{ARGUMENT}--wait: '3601' is not a number of seconds from 0.1 to 3600{SEE}", ["LINE", "FOLDER/program", "--wait", "3601"], file_of("x", 1)),
-    (2, f"{ARGUMENT}--wait: 'x' is not a number of seconds from 0.1 to 3600{SEE}", ["LINE", "FOLDER/program", "--wait", "x"], file_of("x", 1)),
-    (2, f"{ARGUMENT}--speed: '9.6' is not a number of bits a second{SEE}", ["LINE", "FOLDER/program", "--speed", "9.6"], file_of("x", 1)),
-    (2, f"load: unrecognized arguments: more{SEE}", ["LINE", "FOLDER/program", "more"], file_of("x", 1)),
+    program(3, "FOLDER/no", MISSING),
+    program(3, "", MISSING),
+    program(3, "FOLDER", "cannot be read: Is a directory"),
+    program(3, "FOLDER/it", "has no byte; a program has 1 to 131072", 0),
+    program(3, "FOLDER/it", "is too long; a program has 1 to 131072 bytes", RAM_MOST + 1),
+    secret("FOLDER/it", "a user secret has exactly 32 bytes", 31),
+    secret("FOLDER/it", "a user secret has exactly 32 bytes", 33),
+    secret("FOLDER/it", "a user secret has exactly 32 bytes", 0),
+    secret("FOLDER/no", MISSING),
+    secret("FOLDER", "cannot be read: Is a directory"),
+    device("FOLDER/no", "No such file or directory"),
+    device("FOLDER/x", "is not a serial line"),
+    device("/dev/null", "is not a serial line"),
+    device("FOLDER", "Is a directory"),
+    argument("--id", "4", "0, 1, 2 or 3"),
+    argument("--id", "", "0, 1, 2 or 3"),
+    argument("--wait", "0", SECONDS_WORDS),
+    argument("--wait", "3601", SECONDS_WORDS),
+    argument("--wait", "0.05", SECONDS_WORDS),
+    argument("--wait", "x", SECONDS_WORDS),
+    argument("--speed", "9.6", "a number of bits a second"),
+    (2, "load: the following arguments are required: DEVICE, PROGRAM; see ./load --help\n", [], nothing),
+    (2, "load: unrecognized arguments: more; see ./load --help\n", ["LINE", "FOLDER/program", "more"], file_of("x", 1)),
 ]
 
 
@@ -368,9 +391,10 @@ def speed(folder):
     expect("status", run(terminal.name, written(folder, "fast", b"x"), "--speed", "62500", "--wait", "0.1")[0], 5)
     mode = struct.unpack("4I20s2I", fcntl.ioctl(terminal.slave, 0x802C542A, bytes(44)))
     expect("speeds", mode[5:], (62500, 62500))
-    off = (termios.ICRNL | termios.IXON | termios.ISTRIP, termios.OPOST, termios.CRTSCTS | termios.PARENB, termios.ECHO | termios.ICANON | termios.ISIG)
+    t = termios
+    off = (t.ICRNL | t.IXON | t.ISTRIP, t.OPOST, t.CRTSCTS | t.PARENB | t.CSTOPB, t.ECHO | t.ICANON | t.ISIG)
     expect("flags that are off", [flags & bits for flags, bits in zip(mode, off)], [0, 0, 0, 0])
-    expect("eight bits, and no carrier needed", mode[2] & (termios.CSIZE | termios.CLOCAL | termios.CREAD), termios.CS8 | termios.CLOCAL | termios.CREAD)
+    expect("eight bits, and no carrier needed", mode[2] & (t.CSIZE | t.CLOCAL | t.CREAD), t.CS8 | t.CLOCAL | t.CREAD)
     expect("least bytes and tenths", (mode[4][1 + termios.VMIN], mode[4][1 + termios.VTIME]), (0, 1))
     expect("it was not raw before", bool(cooked[3] & termios.ICANON), True)
     terminal.close()
@@ -417,7 +441,7 @@ def cases():
     for what, peer, status, err, frames, more in LINES:
         yield what, meets(peer, status, err, frames, **more)
     for status, err, words, prepare in REFUSED:
-        yield f"refused {words}", nothing_sent(status, err, words, prepare)
+        yield f"refused {err!r}", nothing_sent(status, err, words, prepare)
     for case in (other_required, no_room, dripping, full, stale, progress, rate, unreadable, in_use, speed, readme, usage, dies):
         yield case.__name__, case
 
