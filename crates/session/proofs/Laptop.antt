@@ -39,7 +39,8 @@ module _ (prog : List ℕ) (id : ℕ) (secret : Secret) where
     LoadsFrom i es = Loads laptop (i / 129) (bytesOf (repliesOf es))
 
     -- a byte within a frame: there is no reply
-    unanswered : (i : ℕ) (e : Entry) (es : List Entry) → e .out .reply ≡ 0 → suc i / 129 ≡ i / 129 → LoadsFrom (suc i) es → LoadsFrom i (e ∷ es)
+    unanswered : (i : ℕ) (e : Entry) (es : List Entry) → e .out .reply ≡ 0 → suc i / 129 ≡ i / 129 → LoadsFrom (suc i) es
+        → LoadsFrom i (e ∷ es)
     unanswered i e es z k s = rw z (subst (λ (k : ℕ). Loads laptop k (bytesOf (repliesOf es))) k s)
 
     -- the last byte of a frame: the reply is the answer to it
@@ -54,7 +55,8 @@ module _ (prog : List ℕ) (id : ℕ) (secret : Secret) where
         reply : List ℕ
         reply = take (e .out .reply) (e .out .room)
 
-        go : (t : Bool) → eqb k blocks ≡ t → taking (length prog) id k reply ≡ takingAs 0 0 (cond t (programDigest prog id secret) (zeros 32))
+        go : (t : Bool) → eqb k blocks ≡ t
+            → taking (length prog) id k reply ≡ takingAs 0 0 (cond t (programDigest prog id secret) (zeros 32))
             → Loads laptop k (bytesOf reply ++ bytesOf (repliesOf es))
         go true q t =
             let b : k ≡ blocks = eqb-true k blocks q in
