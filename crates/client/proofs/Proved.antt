@@ -10,7 +10,7 @@ use lib.ListN.{length, getD, take, drop, replicate, length-take, length-drop, le
 use lib.Seq.{take-all, take-at, drop-at}
 use borrow.Author.Tests.{eq-eqb, ne-eqb, eqb-true, le-leb, le-ltb}
 use Rattle.endian.proofs.Cases.{impossible}
-use Rattle.framing.specs.Header.{Reading, good, stop, headerAt, headerByte}
+use Rattle.framing.specs.Header.{Reading, good, stop, headerAt, headerByte, bodyLen}
 use Rattle.framing.proofs.Headers.{headers, fields-of}
 use Rattle.protocol.specs.Commands.{firmware, blocksFor, isLast}
 use Rattle.protocol.specs.Replies.{written, replyHeader, sent, loadReply, blockReply, digestReply}
@@ -190,7 +190,7 @@ differs n id k r z = rw z (by-difference (differenceIn (expectedReply n k) id r)
     by-difference Status = (λ e. impossible cc, λ e. absurd (omega arith))
     by-difference Filler = (λ e. impossible cc, λ e. absurd (omega arith))
 
-not-refusal : (n id k : ℕ) (r : List ℕ) → taking n id k r .number ≡ 0 → refusal n id k ≡ 0
+pub not-refusal : (n id k : ℕ) (r : List ℕ) → taking n id k r .number ≡ 0 → refusal n id k ≡ 0
 unfolding taking
 not-refusal n id k r = go (eqb (refusal n id k) 0) refl
   where
@@ -198,12 +198,20 @@ not-refusal n id k r = go (eqb (refusal n id k) 0) refl
     go true q e = eqb-true (refusal n id k) 0 q
     go false q e = e
 
-takes : (n id k : ℕ) (r : List ℕ) → getD r 0 0 < 2 ^ 8 → taking n id k r .number ≡ 0 → (refusal n id k ≡ 0) × Expects (expectedReply n k) id r
+taken-passes : (n id k : ℕ) (r : List ℕ) → taking n id k r .number ≡ 0 → Passes (expectedReply n k) id r
 unfolding differing
-takes n id k r l e =
+taken-passes n id k r e =
     let z = not-refusal n id k r e in
-    let d : differenceIn (expectedReply n k) id r ≡ Nothing = rw z at (differs n id k r z .1 e) in
-    (z, parts (expectedReply n k) (expected-fits n k) id r l (passes (expectedReply n k) id r d))
+    passes (expectedReply n k) id r (rw z at (differs n id k r z .1 e))
+
+takes : (n id k : ℕ) (r : List ℕ) → getD r 0 0 < 2 ^ 8 → taking n id k r .number ≡ 0 → (refusal n id k ≡ 0) × Expects (expectedReply n k) id r
+takes n id k r l e = (not-refusal n id k r e, parts (expectedReply n k) (expected-fits n k) id r l (taken-passes n id k r e))
+
+-- a reply that is taken is as long as its header says
+pub taken-whole : (n id k : ℕ) (r : List ℕ) → taking n id k r .number ≡ 0 → length r ≡ 1 + bodyLen (headerAt (getD r 0 0))
+taken-whole n id k r e =
+    let p = taken-passes n id k r e in
+    rw (header-is (headerAt (getD r 0 0)) id (expectedReply n k .len) (p .header)) (p .whole)
 
 compared : (differing 1 1 0 [] ≡ Header)
     × (differing 1 1 0 (0x51 ∷ 0x06 ∷ 2 ∷ 1 ∷ []) ≡ Header)

@@ -1,7 +1,7 @@
 // Loads a program into the head on a serial line. What is sent and taken is proved in crate `client`, what is done next in `upload`, what
 // is said in `messages`. What no contract can say is left to this program: that it hands over the bytes that it reads, in order, and sends
-// each frame. The script ./load opens the line: on descriptor 4 a read waits a tick, a tenth of a second, for a byte, and on 5 a write never
-// waits. A Rattle program has no exit status: its number goes to descriptor 3.
+// each frame. The script ./load opens the line: on descriptor 4 a read waits a tick, a tenth of a second, for a byte, and on 5 a write
+// never waits. A Rattle program has no exit status: its number goes to descriptor 3.
 mod files;
 mod line;
 

@@ -3,7 +3,7 @@ use Prim.Native.Nat.{ℕ, zero, suc, _+_, _-_, _*_, _/_, _<_, _≤_}
 use mathlib.Core.Path.{_≡_, refl, sym, ap, _∙_, subst}
 use mathlib.Core.Bool.{Bool, true, false, cond}
 use mathlib.Core.List.{List, [], _∷_, _++_, append-assoc, append-nil, head-eq-of-cons-eq, tail-eq-of-cons-eq, flatten}
-use native.Mathlib.Nat.{add-zero, zero-add}
+use native.Mathlib.Nat.{add-zero}
 use native.Mathlib.Omega.{arith}
 use native.Mathlib.Numerals.{add-one}
 use lib.Dec.{eqb}
@@ -29,10 +29,11 @@ use Rattle.client.specs.Frames.{refusal, commandHeader}
 use Rattle.client.specs.Replies.{takingAs, taking}
 use Rattle.client.proofs.Proved.{client}
 use Rattle.client.specs.declared.Secret.{Secret}
+use Rattle.upload.proofs.Proved.{uploads}
 use Rattle.session.specs.Reading.{forFirmware, bodyOf, sizeOf, programOf, digestOf, Allowed, chained, measuredId, Starting}
 use Rattle.session.specs.Session.{Call, Entry, entryOf, log, isAccepted, accepted, receivedBytes, OneRam, Session, allOf, acceptedOf, hasEnded}
 use Rattle.session.specs.Boot.{Start}
-use Rattle.session.specs.Client.{frame, frames, programDigest, digestAt, Made, ReceivesFrames, Replied, Loads, ClientLoad}
+use Rattle.session.specs.Client.{frame, frames, programDigest, digestAt, Made, ReceivesFrames, Replied, job, Loads, ClientLoad}
 use Rattle.session.proofs.Frames.{same-size}
 use Rattle.session.proofs.Gathering.{length-snoc}
 use Rattle.session.proofs.Acting.{Leaves, ReplyTo, to-query, to-load, to-block}
@@ -42,6 +43,7 @@ use Rattle.session.proofs.Calls.{Live, not-live, FrameReply, within, pa
 use Rattle.session.proofs.Walk.{numberOf, call-is}
 use Rattle.session.proofs.ClientFrames as made
 use Rattle.session.proofs.Positions.{total, Place, place}
+use Rattle.session.proofs.Laptop.{Replies, loads-from}
 use Rattle.head.specs.declared.State.{State}
 
 -- ---- a list of which no call is refused
@@ -76,6 +78,10 @@ one-more r e es = go (isAccepted (e .out .report))
     go : (t : Bool) → t ≡ true → OneRam r (cond t (e ∷ accepted es) (accepted es)) → (e .call .ram ≡ r) × OneRam (e .out .ram) (accepted es)
     go true q o = o
     go false q o = never (sym q)
+
+received-length : (es : List Entry) → length (receivedBytes es) ≡ length es
+received-length [] = refl
+received-length (e ∷ es) = ap suc (received-length es)
 
 no-calls : (es : List Entry) → receivedBytes es ≡ [] → es ≡ []
 no-calls [] e = refl
@@ -333,6 +339,12 @@ module _ (prog : List ℕ) (id : ℕ) (secret : Secret) (makes : Made prog id se
     unfolding reading
     program-is = made.reading-program prog id secret makes (S .rec) (S .ramLen) (received .fits) (received .allowed) (receivedBytes (acceptedOf S)) all-received
 
+    calls-replied : Replies prog id secret 0 (allOf S)
+    calls-replied e i j q = subst (λ (k : ℕ). Replied prog id secret k e) (sym q) (replies 0 (allOf S) trace-of (i .before) (i .after) e (i .place))
+
+    calls-length : length (allOf S) ≡ 129 * suc (blocksFor n)
+    calls-length = sym (received-length (allOf S)) ∙ ap length (received .bytes) ∙ total prog id secret makes (suc (blocksFor n))
+
     loads : Loads prog id secret S
     loads =
         let g = gives S start in
@@ -347,7 +359,10 @@ module _ (prog : List ℕ) (id : ℕ) (secret : Secret) (makes : Made prog id se
           cdi = g .cdi ∙ ap (λ (x : List ℕ). blake2s [] x 32)
               (ap (λ (x : List ℕ). cdiString (bytes (end .last .call .uds)) (chained (S .rec)) (measuredId (S .rec)) (blake2s [] x 32) (usesUss (loadIn (start .reading .load))) (loadIn (start .reading .load) .uss)) program-is
               ∙ one-string (bytes (end .last .call .uds)) (measuredId (S .rec)) (programDigest prog id secret) (chained (S .rec)) n (secret .used) (secret .uss) (loadIn (start .reading .load)) load-is);
-          replies = λ e i. subst (λ (k : ℕ). Replied prog id secret k e) (zero-add (length (i .before))) (replies 0 (allOf S) trace-of (i .before) (i .after) e (i .place));
+          replies = λ e i. calls-replied e i (length (i .before)) (omega arith);
+          laptop = λ wait.
+              let l = calls-length in
+              uploads .loads (job prog id secret wait) _ .1 (loads-from prog id secret wait 0 (allOf S) calls-replied (omega arith) (omega arith));
         }
 
 pub client-load : ClientLoad

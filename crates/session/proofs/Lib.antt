@@ -11,5 +11,6 @@ pub mod Sending
 pub mod Strings
 pub mod Proved
 pub mod Positions
+pub mod Laptop
 pub mod Client
 pub mod Checked

@@ -20,8 +20,11 @@ use Rattle.head.specs.Begin.{beginning}
 use Rattle.client.specs.Frames.{refusal, commandFrame}
 use Rattle.client.specs.Replies.{takingAs, taking}
 use Rattle.client.specs.declared.Secret.{Secret}
+use Rattle.upload.specs.Upload.{opening, bytesOf, runs}
+use Rattle.upload.specs.declared.Job.{Job}
+use Rattle.upload.specs.declared.Next.the-variants.{Loaded}
 use Rattle.session.specs.Reading.{LoadFrame, GoodLoad, BlockFrame, Allowed, chained, measuredId}
-use Rattle.session.specs.Session.{Entry, Among, isAccepted, receivedBytes, Session, allOf, acceptedOf, hasEnded}
+use Rattle.session.specs.Session.{Entry, Among, isAccepted, receivedBytes, repliesOf, Session, allOf, acceptedOf, hasEnded}
 use Rattle.session.specs.Boot.{Start}
 
 module _ (program : List ℕ) (id : ℕ) (secret : Secret) where
@@ -88,6 +91,10 @@ module _ (program : List ℕ) (id : ℕ) (secret : Secret) where
     -- the client takes it as the reply to that frame, with status 0
     pub taken : i % 129 ≡ 128 → taking (length program) id (i / 129) (take (e .out .reply) (e .out .room)) ≡ takingAs 0 0 (digestAt (i / 129))
 
+  -- what a laptop is told that loads this program, with so many ticks to wait
+  abbrev pub job : ℕ → Job
+  job wait = record { len = length program; id = id; digest = programDigest; wait = wait }
+
   pub record Loads (S : Session) : Type 0 where
     -- the head starts at the last byte of the last frame, and not before; what every start gives (`Gives`) holds of this one
     pub start : Start S
@@ -100,6 +107,8 @@ module _ (program : List ℕ) (id : ℕ) (secret : Secret) where
     pub cdi : start .entry .out .cdi
         ≡ blake2s [] (cdiString (bytes (start .entry .call .uds)) (chained (S .rec)) (measuredId (S .rec)) programDigest (secret .used) (secret .uss)) 32
     pub replies : (e : Entry) (i : Among e (allOf S)) → Replied (length (i .before)) e
+    -- the laptop that is given these replies, one after the other, says that the program is loaded
+    pub laptop : (wait : ℕ) → runs (job wait) (opening (job wait)) (bytesOf (repliesOf (allOf S))) .next ≡ Loaded
 
 pub record ClientLoad : Type 0 where
   pub reads : (program : List ℕ) (id : ℕ) (secret : Secret) → Made program id secret → ReadAs program id secret

@@ -6,7 +6,7 @@ use mathlib.Core.Logic.{_⊎_}
 use mathlib.Core.Bool.{Bool, true, false, not, cond, _||_}
 use mathlib.Core.List.{List, [], _∷_, _++_}
 use lib.Dec.{eqb, ltb}
-use lib.ListN.{length}
+use lib.ListN.{length, take}
 use Rattle.endian.specs.Lists.{Words}
 use Rattle.record.specs.Record.{typeField, numberIn}
 use Rattle.head.specs.Answers.{Report, refused, continues, stopped, started, Outcome}
@@ -56,6 +56,11 @@ accepted (e ∷ es) = cond (isAccepted (e .out .report)) (e ∷ accepted es) (ac
 abbrev pub receivedBytes : List Entry → List ℕ
 receivedBytes [] = []
 receivedBytes (e ∷ es) = e .call .byte ∷ receivedBytes es
+
+-- and those of their replies, which each leaves at the front of its room
+abbrev pub repliesOf : List Entry → List ℕ
+repliesOf [] = []
+repliesOf (e ∷ es) = take (e .out .reply) (e .out .room) ++ repliesOf es
 
 -- the RAM of the first holds r, and that of each later one what the one before it left
 abbrev pub OneRam : List ℕ → List Entry → Type 0

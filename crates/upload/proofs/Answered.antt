@@ -11,13 +11,15 @@ use Rattle.endian.proofs.Same.{same-refl}
 use Rattle.framing.specs.Header.{headerAt, bodyLen}
 use Rattle.framing.proofs.Headers.{body-small}
 use Rattle.protocol.specs.Commands.{placeOf}
-use Rattle.client.specs.Replies.{takingAs, taking}
+use Rattle.client.specs.Replies.{Taking, takingAs, taking}
+use Rattle.client.proofs.Proved.{taken-whole}
 use Rattle.upload.specs.Upload.{isOver, turnOf, sentFrame, afterReply, onward, replied, isWhole, received, silent, bytesOf, runs}
 use Rattle.upload.specs.Theorems.{Heard, nothing, byte, silence, Answer, Loads, last, more}
 use Rattle.upload.proofs.Held.{held, bodyOf, came, one-more, whole-is}
 use Rattle.upload.specs.declared.Job.{Job}
 use Rattle.upload.specs.declared.Exchange.{Exchange}
 use Rattle.upload.specs.declared.Event.{Event}
+use Rattle.upload.specs.declared.Event.the-variants.{Byte}
 use Rattle.upload.specs.declared.Next.{Next}
 use Rattle.upload.specs.declared.Next.the-variants.{Send, Wait, Loaded, Failed}
 use Rattle.upload.specs.declared.Turn.{Turn}
@@ -79,6 +81,22 @@ hears job k (silence b s n es g) rest r t next o h w i =
 all-bytes : (r : List ℕ) → Heard r 0 (bytesOf r)
 all-bytes [] = nothing
 all-bytes (b ∷ r) = byte b r 0 (bytesOf r) (all-bytes r)
+
+-- a reply that is taken, without silence
+pub prompt : (job : Job) (k : ℕ) (d r : List ℕ) → taking (job .len) (job .id) k r ≡ takingAs 0 0 d → Answer job k d (bytesOf r)
+prompt job k d r e =
+    record {
+      reply = r;
+      silences = 0;
+      heard = all-bytes r;
+      whole = taken-whole (job .len) (job .id) k r (ap (λ (t : Taking). t .number) e);
+      in-time = omega arith;
+      taken = e;
+    }
+
+pub bytes-append : (r s : List ℕ) → bytesOf (r ++ s) ≡ bytesOf r ++ bytesOf s
+bytes-append [] s = refl
+bytes-append (b ∷ r) s = ap (λ (es : List Event). Byte b ∷ es) (bytes-append r s)
 
 onward-next : (job : Job) (x : Exchange) (next : Next) → onward job x next .next ≡ next
 onward-next job x Send = refl

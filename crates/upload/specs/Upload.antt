@@ -1,5 +1,5 @@
--- A load as the laptop goes through it, event by event: each frame is sent, and its reply read to its end, before the next one is. What a frame is and
--- which reply is taken is change request 1, in `client`.
+-- A load as the laptop goes through it, event by event: each frame is sent, and its reply read to its end, before the next one is. What a
+-- frame is and which reply is taken is change request 1, in `client`.
 use Prim.Native.Nat.{ℕ, _+_, _-_, _*_}
 use mathlib.Core.Bool.{Bool, true, false, not, cond}
 use mathlib.Core.List.{List, [], _∷_}
@@ -61,8 +61,8 @@ opening job =
 abbrev pub afterLast : Job → List ℕ → Next
 afterLast job digest = cond (same digest (job .digest)) Loaded (Failed OtherDigest)
 
--- a whole reply to frame k, as the client takes it: one that is not taken, or has status 1, ends the load; another frame follows if the frames up to k
--- do not carry all of the program
+-- a whole reply to frame k, as the client takes it: one that is not taken, or has status 1, ends the load; another frame follows if the
+-- frames up to k do not carry all of the program
 abbrev pub afterReply : Job → ℕ → Taking → Next
 afterReply job k t =
     cond (not (eqb (t .number) 0)) (Failed UnexpectedReply)
