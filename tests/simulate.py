@@ -276,7 +276,7 @@ def dies(folder):
     children = Path(f"/proc/{head.process.pid}/task/{head.process.pid}/children")
     expect("the first line", head.process.stdout.readline(), b"waiting\n")
     os.kill(int(children.read_text().split()[0]), signal.SIGKILL)
-    head.ends(1, "", "simulate: the head's program died\n")
+    head.ends(1, "", "simulate: the program died\n")
 
 
 def cases():
