@@ -22,6 +22,11 @@ class Parser(argparse.ArgumentParser):
         self.exit(BAD_ARGUMENTS, f"{self.name}: {message}; see ./{self.name} --help\n")
 
 
+def fail(number, words):
+    print(words, file=sys.stderr)
+    return number
+
+
 def built(name):
     """The path of a program, proved and built if it is not there yet; where that fails, the command ends."""
     done = subprocess.run([os.path.join(TOP, "scripts", "built"), name], stdin=subprocess.DEVNULL, stdout=subprocess.PIPE)
@@ -31,8 +36,8 @@ def built(name):
 
 
 def run(program, words, places):
-    """Runs a program with these words, and with the descriptor places[n] as its descriptor n: the number that it writes to descriptor 3, or
-    none if it died. It ends with the command."""
+    """Runs a program with these words, and with the descriptor places[n] as its descriptor n: the number that it writes to descriptor 3. It
+    ends with the command."""
     out, number = os.pipe()
     high = {place: fcntl.fcntl(fd, fcntl.F_DUPFD_CLOEXEC, 10) for place, fd in {**places, 3: number}.items()}
     actions = [(os.POSIX_SPAWN_DUP2, fd, place) for place, fd in high.items()]
@@ -45,13 +50,25 @@ def run(program, words, places):
     finally:
         os.kill(child, signal.SIGKILL)
         os.waitpid(child, 0)
-    return int(digits) if digits else None
+    return int(digits) if digits else fail(FAILED, f"{os.path.basename(program)}: the program died")
 
 
-def main(command):
+def hold_streams():
+    """A standard stream that is closed is as /dev/null: otherwise what is opened next, as a line to a head, would get its number."""
+    while (fd := os.open(os.devnull, os.O_RDWR)) < 3:
+        pass
+    os.close(fd)
+    sys.stdout = sys.stdout or open(1, "w")
+    sys.stderr = sys.stderr or open(2, "w")
+
+
+def main(name, command):
     """Exits with what a command gives, and on an interrupt as a shell does."""
+    hold_streams()
     signal.signal(signal.SIGTERM, lambda number, frame: sys.exit(128 + number))
     try:
         sys.exit(command())
     except KeyboardInterrupt:
         sys.exit(128 + signal.SIGINT)
+    except OSError as error:
+        os._exit(fail(FAILED, f"{name}: {error.strerror}"))

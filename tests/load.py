@@ -37,7 +37,7 @@ CLOSED = " was whole; is the cable plugged in? has the head power?"
 # of ./load --help
 STATUSES = {
     0: "loaded",
-    1: "the program could not be proved and built, or died",
+    1: "the program could not be proved and built, or died, or standard output could not be written",
     2: "bad arguments",
     3: "a file cannot be read, PROGRAM has no byte or over 131072, or the secret has not 32",
     4: "DEVICE cannot be opened, or is not a serial line",
@@ -516,7 +516,7 @@ def waits(folder):
     """Ten seconds, a hundred ticks, if nothing else is said; until then it is ended by a signal."""
     load = Waiting(folder)
     words = Path(f"/proc/{load.program}/cmdline").read_text().split("\0")[1:]
-    expect("its words", words, [load.terminal.name, str(load.path), "0", "100", ""])
+    expect("its words", words, [load.terminal.name, str(load.path), "0", "100", "1", ""])
     ended_by(signal.SIGTERM, load.process)
     load.terminal.close()
 

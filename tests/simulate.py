@@ -297,7 +297,7 @@ def dies(folder):
     head = Head()
     expect("the first line", head.process.stdout.readline(), b"waiting\n")
     os.kill(child(head.process), signal.SIGKILL)
-    head.ends(1, "", "simulate: the head's program died\n")
+    head.ends(1, "", "simulate: the program died\n")
 
 
 def cases():

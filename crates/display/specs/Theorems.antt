@@ -36,7 +36,7 @@ pub record Display : Type 0 where
   pub block-elsewhere : receivedText false (loadingAt 2) Continue (loadingAt 3) (zeros 32) ≡ []
   pub start-elsewhere : (q : Progress) → receivedText false (loadingAt 1032) (Started 0x40000000 131072) q someCdi
       ≡ ascii "1033 blocks\n" ++ startOf
-  -- nothing is shown of a byte that changes nothing of the load: one within a frame, a query, a load that is not taken
+  -- nothing is shown of a byte that leaves the progress as it is
   pub quiet : (terminal : Bool) (p : Progress) (cdi : List ℕ) → receivedText terminal p Continue p cdi ≡ []
   -- each stop; one that comes within the line of blocks ends it
   pub stop-20 : beginText (Stopped UnknownType) ≡ ascii "stopped 20: the record's type is 6 or above\n"

@@ -106,9 +106,9 @@ pub fn say(name: &[u8], job: Job, t: Turn, why: Failure) -> u32 {
     upload::exit_number(why)
 }
 
-// Says why a file cannot be read, as errno does, and answers the exit status.
+// Says why a file cannot be read, as errno does, and answers the exit status of a file.
 pub fn fail(name: &[u8]) -> u32 {
     begin_line(name);
     os::fail(b"cannot be read");
-    upload::exit_number(Failure::Unreadable)
+    upload::exit_number(Failure::ProgramLength)
 }

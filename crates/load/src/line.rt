@@ -61,7 +61,7 @@ fn receive() -> Event {
 
 // ---- progress
 
-// After the reply to frame k so many blocks are done; the line is ended with the load.
+// After the reply to frame k so many blocks are done. The line is ended with the load, if there is one: before the first reply there is not.
 fn show(terminal: bool, len: usize, k: u32, next: Next, began: u64) {
     if !terminal {
         return;
@@ -74,7 +74,9 @@ fn show(terminal: bool, len: usize, k: u32, next: Next, began: u64) {
             io::write_all(STDERR_FILENO, b"\n");
         }
         Next::Failed(_) => {
-            io::write_all(STDERR_FILENO, b"\n");
+            if 0 < k {
+                io::write_all(STDERR_FILENO, b"\n");
+            }
         }
     }
 }

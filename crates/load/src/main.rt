@@ -19,12 +19,15 @@ fn main() {
     io::print_decimal(3, number as u64);
 }
 
-// The arguments are the names of the device and of the program, the frame ID, the ticks to wait and, if there is one, the name of the
-// secret's file. Answers the exit status.
+// The arguments are the names of the device and of the program, the frame ID, the ticks to wait, 0 if only the files are looked at, and the
+// name of the secret's file if there is one. Answers the exit status.
 fn run() -> u32 {
     let mut program = [0u8; 131073];
     let mut name = io::buffer();
     let n = os::arg(2, &mut name);
+    if os::errno() != 0 {
+        return files::fail(&name);
+    }
     match files::read(&name[..n], &mut program) {
         Contents::Unreadable => files::fail(&name[..n]),
         Contents::Bytes(len) => begin(&name[..n], endian::first(&program, len)),
@@ -33,7 +36,7 @@ fn run() -> u32 {
 
 // The program is read: looks at what is to be loaded before anything else.
 fn begin(name: &[u8], program: &[u8]) -> u32 {
-    let job = job_of(program);
+    let job = upload::job_of(program, files::id(files::number_at(3)), files::number_at(4));
     let t = upload::open(job);
     let next = t.next;
     if upload::is_over(next) {
@@ -42,26 +45,17 @@ fn begin(name: &[u8], program: &[u8]) -> u32 {
     with_secret(program, job)
 }
 
-// What is to be loaded, with the program's digest.
-fn job_of(program: &[u8]) -> Job {
-    let mut digest = [0u8; 32];
-    blake2s::hash(&[], program, &mut digest);
-    Job {
-        len: program.len(),
-        id: files::id(files::number_at(3)),
-        digest,
-        wait: files::number_at(4),
-    }
-}
-
 // Reads the user secret, if there is one, and loads.
 fn with_secret(program: &[u8], job: Job) -> u32 {
-    if os::arg_count() < 6 {
+    if os::arg_count() < 7 {
         return load(program, job, files::no_secret());
     }
     let mut file = [0u8; 33];
     let mut name = io::buffer();
-    let n = os::arg(5, &mut name);
+    let n = os::arg(6, &mut name);
+    if os::errno() != 0 {
+        return files::fail(&name);
+    }
     match files::read(&name[..n], &mut file) {
         Contents::Unreadable => files::fail(&name[..n]),
         Contents::Bytes(len) => {
@@ -75,6 +69,9 @@ fn with_secret(program: &[u8], job: Job) -> u32 {
 
 // Loads, and says how it went.
 fn load(program: &[u8], job: Job, secret: Secret) -> u32 {
+    if files::number_at(5) == 0 {
+        return 0;
+    }
     let mut name = io::buffer();
     let n = os::arg(1, &mut name);
     if libc::isatty(line::INPUT) != 1 {
@@ -89,10 +86,16 @@ fn conclude(name: &[u8], job: Job, t: Turn) -> u32 {
     let next = t.next;
     match next {
         Next::Failed(why) => files::say(name, job, t, why),
-        _ => {
-            text::write(STDOUT_FILENO, messages::loaded(job));
-            text::write(STDERR_FILENO, messages::started());
-            0
-        }
+        _ => tell(job),
     }
+}
+
+// The lines of a load. The head has the program, also where they cannot be written; then that is said.
+fn tell(job: Job) -> u32 {
+    if !text::write(STDOUT_FILENO, messages::loaded(job)) {
+        os::fail(b"load: standard output");
+        return 1;
+    }
+    text::write(STDERR_FILENO, messages::started());
+    0
 }

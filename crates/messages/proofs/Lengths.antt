@@ -21,7 +21,7 @@ use Rattle.messages.specs.Messages.{frameName, secondsOf, cameName, diff
 use Rattle.upload.specs.declared.Job.{Job}
 use Rattle.upload.specs.declared.Exchange.{Exchange}
 use Rattle.upload.specs.declared.Failure.{Failure}
-use Rattle.upload.specs.declared.Failure.the-variants.{Arguments, Unreadable, ProgramLength, SecretLength, Device, NoAnswer, LineClosed, UnexpectedReply, Refused, OtherDigest}
+use Rattle.upload.specs.declared.Failure.the-variants.{ProgramLength, FrameId, SecretLength, Device, NoAnswer, LineClosed, UnexpectedReply, Refused, OtherDigest}
 
 -- one of two
 either : (t : Bool) (a b : List ℕ) (n : ℕ) → length a ≤ n → length b ≤ n → length (cond t a b) ≤ n
@@ -112,9 +112,8 @@ module _ (job : Job) (x : Exchange) (e : length (x .reply) ≡ 129) where
   words-fit = either (eqb (job .len) 0) _ _ 512 (omega arith) (omega arith)
 
   pub fits : (f : Failure) → length (messageOf job x f) ≤ 512
-  fits Arguments = omega arith
-  fits Unreadable = omega arith
   fits ProgramLength = words-fit
+  fits FrameId = omega arith
   fits SecretLength = omega arith
   fits Device = omega arith
   fits NoAnswer = no-answer-fits

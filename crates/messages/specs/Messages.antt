@@ -13,7 +13,7 @@ use Rattle.upload.specs.Upload.{cameOf}
 use Rattle.upload.specs.declared.Job.{Job}
 use Rattle.upload.specs.declared.Exchange.{Exchange}
 use Rattle.upload.specs.declared.Failure.{Failure}
-use Rattle.upload.specs.declared.Failure.the-variants.{Arguments, Unreadable, ProgramLength, SecretLength, Device, NoAnswer, LineClosed, UnexpectedReply, Refused, OtherDigest}
+use Rattle.upload.specs.declared.Failure.the-variants.{ProgramLength, FrameId, SecretLength, Device, NoAnswer, LineClosed, UnexpectedReply, Refused, OtherDigest}
 
 -- ---- parts of a message
 
@@ -46,7 +46,7 @@ differenceName Filler = ascii "filler"
 abbrev pub noAnswer : Job → Exchange → List ℕ
 noAnswer job x =
     cameName x ++ ascii " to " ++ frameName job (x .k) ++ ascii " in " ++ secondsOf (job .wait)
-    ++ ascii "; is the head waiting for a program? has it stopped?"
+    ++ ascii " of silence; is the head waiting for a program? has it stopped?"
 
 abbrev pub lineClosed : Job → Exchange → List ℕ
 lineClosed job x =
@@ -74,9 +74,8 @@ lengthWords job =
     cond (eqb (job .len) 0) (ascii "has no byte; a program has 1 to 131072") (ascii "is too long; a program has 1 to 131072 bytes")
 
 abbrev pub messageOf : Job → Exchange → Failure → List ℕ
-messageOf job x Arguments = ascii "bad arguments; see ./load --help"
-messageOf job x Unreadable = ascii "cannot be read"
 messageOf job x ProgramLength = lengthWords job
+messageOf job x FrameId = ascii "a frame ID is 0, 1, 2 or 3"
 messageOf job x SecretLength = ascii "a user secret has exactly 32 bytes"
 messageOf job x Device = ascii "is not a serial line"
 messageOf job x NoAnswer = noAnswer job x

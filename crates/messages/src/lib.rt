@@ -108,7 +108,10 @@ fn no_answer(t: Text, job: Job, x: Exchange) -> Text
     let c = put_frame(b, job, x.k);
     let d = text::put_all(c, b" in ");
     let e = put_seconds(d, job.wait);
-    text::put_all(e, b"; is the head waiting for a program? has it stopped?")
+    text::put_all(
+        e,
+        b" of silence; is the head waiting for a program? has it stopped?",
+    )
 }
 
 fn line_closed(t: Text, job: Job, x: Exchange) -> Text
@@ -176,9 +179,8 @@ pub fn message(job: Job, x: Exchange, f: Failure) -> Text
 {
     let t = text::empty();
     match f {
-        Failure::Arguments => text::put_all(t, b"bad arguments; see ./load --help"),
-        Failure::Unreadable => text::put_all(t, b"cannot be read"),
         Failure::ProgramLength => program_length(t, job),
+        Failure::FrameId => text::put_all(t, b"a frame ID is 0, 1, 2 or 3"),
         Failure::SecretLength => text::put_all(t, b"a user secret has exactly 32 bytes"),
         Failure::Device => text::put_all(t, b"is not a serial line"),
         Failure::NoAnswer => no_answer(t, job, x),
@@ -261,7 +263,7 @@ fn put_line(t: Text, len: usize, n: usize, done: usize, seconds: u64) -> Text
     let b = put_bar(a, 32 * done / n);
     let c = text::put_all(b, b"] ");
     let d = put_count(c, done, n);
-    let e = put_rate(d, least(len, 127 * done), seconds);
+    let e = put_rate(d, least(len, protocol::place_of(done as u32)), seconds);
     text::put_all(e, b"\x1b[K")
 }
 

@@ -33,7 +33,7 @@ use Rattle.upload.proofs.Proved.{uploads}
 use Rattle.session.specs.Reading.{forFirmware, bodyOf, sizeOf, programOf, digestOf, Allowed, chained, measuredId, Starting}
 use Rattle.session.specs.Session.{Call, Entry, entryOf, log, isAccepted, accepted, receivedBytes, OneRam, Session, allOf, acceptedOf, hasEnded}
 use Rattle.session.specs.Boot.{Start}
-use Rattle.session.specs.Client.{frame, frames, programDigest, digestAt, Made, ReceivesFrames, Replied, job, Loads, ClientLoad}
+use Rattle.session.specs.Client.{frame, frames, programDigest, digestAt, Made, ReceivesFrames, Replied, Loads, ClientLoad}
 use Rattle.session.proofs.Frames.{same-size}
 use Rattle.session.proofs.Gathering.{length-snoc}
 use Rattle.session.proofs.Acting.{Leaves, ReplyTo, to-query, to-load, to-block}
@@ -43,7 +43,8 @@ use Rattle.session.proofs.Calls.{Live, not-live, FrameReply, within, pa
 use Rattle.session.proofs.Walk.{numberOf, call-is}
 use Rattle.session.proofs.ClientFrames as made
 use Rattle.session.proofs.Positions.{total, Place, place}
-use Rattle.session.proofs.Laptop.{Replies, loads-from}
+use Rattle.upload.proofs.Jobs.{job-is}
+use Rattle.session.proofs.Laptop.{Replies, laptop, loads-from}
 use Rattle.head.specs.declared.State.{State}
 
 -- ---- a list of which no call is refused
@@ -362,7 +363,7 @@ module _ (prog : List ℕ) (id : ℕ) (secret : Secret) (makes : Made prog id se
           replies = λ e i. calls-replied e i (length (i .before)) (omega arith);
           laptop = λ wait.
               let l = calls-length in
-              uploads .loads (job prog id secret wait) _ .1 (loads-from prog id secret wait 0 (allOf S) calls-replied (omega arith) (omega arith));
+              rw (job-is prog id wait (client .accepts (length prog) id 0 .0 (makes .accepted) .1)) (uploads .loads (laptop prog id secret wait) _ .1 (loads-from prog id secret wait 0 (allOf S) calls-replied (omega arith) (omega arith)));
         }
 
 pub client-load : ClientLoad

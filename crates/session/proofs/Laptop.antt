@@ -16,7 +16,7 @@ use Rattle.upload.specs.Theorems.{Loads, last, more}
 use Rattle.upload.specs.declared.Job.{Job}
 use Rattle.upload.proofs.Answered.{prompt, bytes-append}
 use Rattle.session.specs.Session.{Entry, Among, repliesOf}
-use Rattle.session.specs.Client.{programDigest, Replied, job}
+use Rattle.session.specs.Client.{programDigest, Replied}
 
 module _ (prog : List ℕ) (id : ℕ) (secret : Secret) where
   abbrev blocks : ℕ
@@ -32,8 +32,8 @@ module _ (prog : List ℕ) (id : ℕ) (secret : Secret) where
       f x (record { before = e ∷ a .before; after = a .after; place = ap (λ (l : List Entry). e ∷ l) (a .place) }) j (omega arith)
 
   module _ (wait : ℕ) where
-    abbrev laptop : Job
-    laptop = job prog id secret wait
+    abbrev pub laptop : Job
+    laptop = record { len = length prog; id = id; digest = programDigest prog id secret; wait = wait }
 
     abbrev LoadsFrom : ℕ → List Entry → Type 0
     LoadsFrom i es = Loads laptop (i / 129) (bytesOf (repliesOf es))

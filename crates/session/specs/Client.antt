@@ -20,7 +20,7 @@ use Rattle.head.specs.Begin.{beginning}
 use Rattle.client.specs.Frames.{refusal, commandFrame}
 use Rattle.client.specs.Replies.{takingAs, taking}
 use Rattle.client.specs.declared.Secret.{Secret}
-use Rattle.upload.specs.Upload.{opening, bytesOf, runs}
+use Rattle.upload.specs.Upload.{jobOf, opening, bytesOf, runs}
 use Rattle.upload.specs.declared.Job.{Job}
 use Rattle.upload.specs.declared.Next.the-variants.{Loaded}
 use Rattle.session.specs.Reading.{LoadFrame, GoodLoad, BlockFrame, Allowed, chained, measuredId}
@@ -93,7 +93,7 @@ module _ (program : List ℕ) (id : ℕ) (secret : Secret) where
 
   -- what a laptop is told that loads this program, with so many ticks to wait
   abbrev pub job : ℕ → Job
-  job wait = record { len = length program; id = id; digest = programDigest; wait = wait }
+  job wait = jobOf program id wait
 
   pub record Loads (S : Session) : Type 0 where
     -- the head starts at the last byte of the last frame, and not before; what every start gives (`Gives`) holds of this one

@@ -8,14 +8,14 @@ use Rattle.text.specs.Text.{ascii, hexOf, decimalOf, added, textOf}
 use Rattle.text.specs.declared.Text.{Text}
 
 pub record Texts : Type 0 where
-  -- a text that fits is at the front of its bytes, with zeros behind it: what `write` writes is all of it, and nothing else
+  -- a text that fits is at the front of its bytes, with zeros behind it, and its first `len` bytes are all of it
   pub exact : (s : List ℕ) → length s ≤ 512 → textOf s ≡ record { len = length s; bytes = padded 512 s }
   pub written : (s : List ℕ) → length s ≤ 512 → take (textOf s .len) (textOf s .bytes) ≡ s
   -- a text is put together part by part
   pub parts : (t : Text) (a b : List ℕ) → added (added t a) b ≡ added t (a ++ b)
   -- a byte has two digits: 33 bytes have 66
   pub two : (s : List ℕ) → length (hexOf s) ≡ 2 * length s
-  -- a number has 1 to 20 digits
+  -- a number has at most 20 digits
   pub few : (n : ℕ) → length (decimalOf n) ≤ 20
   -- digits of bytes and of numbers; `ascii` as numbers
   pub hex : hexOf (0x09 ∷ 0xaf ∷ []) ≡ ascii "09af"

@@ -5,4 +5,5 @@ pub mod Sends
 pub mod Held
 pub mod Answered
 pub mod Loads
+pub mod Jobs
 pub mod Proved

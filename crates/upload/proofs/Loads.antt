@@ -22,7 +22,7 @@ use Rattle.upload.specs.declared.Exchange.{Exchange}
 use Rattle.upload.specs.declared.Event.{Event}
 use Rattle.upload.specs.declared.Event.the-variants.{Byte, Silence}
 use Rattle.upload.specs.declared.Failure.{Failure}
-use Rattle.upload.specs.declared.Failure.the-variants.{Arguments, ProgramLength}
+use Rattle.upload.specs.declared.Failure.the-variants.{ProgramLength, FrameId}
 use Rattle.upload.specs.declared.Next.{Next}
 use Rattle.upload.specs.declared.Next.the-variants.{Send, Wait, Loaded, Failed}
 use Rattle.upload.specs.declared.Turn.{Turn}
@@ -158,7 +158,7 @@ unfolding opening
 loads job es = (go (lengthOk (job .len)) (ltb 3 (job .id)), λ s. rw (opened job (given-first s)) (loaded job s))
   where
     go : (l i : Bool)
-        → runs job (turnOf (sentFrame job 0) (cond (not l) (Failed ProgramLength) (cond i (Failed Arguments) Send))) es .next ≡ Loaded → Loads job 0 es
+        → runs job (turnOf (sentFrame job 0) (cond (not l) (Failed ProgramLength) (cond i (Failed FrameId) Send))) es .next ≡ Loaded → Loads job 0 es
     go false i e = not-failed job (sentFrame job 0) ProgramLength es e
-    go true true e = not-failed job (sentFrame job 0) Arguments es e
+    go true true e = not-failed job (sentFrame job 0) FrameId es e
     go true false e = from-frame job 0 es (succeeds job 0 [] (job .wait) Send es (omega arith) refl e)

@@ -17,7 +17,7 @@ use Rattle.upload.proofs.Turns.{by-reply, by-event}
 use Rattle.upload.specs.declared.Job.{Job}
 use Rattle.upload.specs.declared.Exchange.{Exchange}
 use Rattle.upload.specs.declared.Event.{Event}
-use Rattle.upload.specs.declared.Failure.the-variants.{Arguments, ProgramLength}
+use Rattle.upload.specs.declared.Failure.the-variants.{ProgramLength, FrameId}
 use Rattle.upload.specs.declared.Next.{Next}
 use Rattle.upload.specs.declared.Next.the-variants.{Send, Failed}
 use Rattle.upload.specs.declared.Turn.{Turn}
@@ -28,7 +28,7 @@ unfolding opening
 first job = go (lengthOk (job .len)) (ltb 3 (job .id)) refl refl
   where
     go : (l i : Bool) → lengthOk (job .len) ≡ l → ltb 3 (job .id) ≡ i
-        → _≡_ {A = Next} (cond (not l) (Failed ProgramLength) (cond i (Failed Arguments) Send)) Send
+        → _≡_ {A = Next} (cond (not l) (Failed ProgramLength) (cond i (Failed FrameId) Send)) Send
         → (opening job .exchange ≡ sentFrame job 0) × (refusal (job .len) (job .id) 0 ≡ 0)
     go false i p q e = impossible cc
     go true true p q e = impossible cc

@@ -5,12 +5,13 @@ use mathlib.Core.Logic.{_↔_}
 use mathlib.Core.Bool.{true}
 use mathlib.Core.List.{List, [], _∷_, _++_}
 use lib.ListN.{length, getD, replicate}
+use Rattle.rfc7693.specs.Rfc7693.{blake2s}
 use Rattle.endian.specs.Lists.{zeros}
 use Rattle.framing.specs.Header.{headerAt, bodyLen}
 use Rattle.protocol.specs.Commands.{placeOf}
 use Rattle.client.specs.Frames.{refusal}
 use Rattle.client.specs.Replies.{takingAs, taking}
-use Rattle.upload.specs.Upload.{isOver, turnOf, sentFrame, opening, afterReply, turned, bytesOf, runs, mostEvents}
+use Rattle.upload.specs.Upload.{jobOf, isOver, turnOf, sentFrame, opening, afterReply, turned, bytesOf, runs, mostEvents}
 use Rattle.upload.specs.declared.Job.{Job}
 use Rattle.upload.specs.declared.Exchange.{Exchange}
 use Rattle.upload.specs.declared.Event.{Event}
@@ -45,13 +46,15 @@ abbrev pub small : Job
 small = record { len = 1; id = 1; digest = replicate 32 0xdd; wait = 2 }
 
 -- its replies: to the load, and to the block
-abbrev pub loadReply : List ℕ
-loadReply = 0x31 ∷ 0x04 ∷ zeros 3
+abbrev pub firstReply : List ℕ
+firstReply = 0x31 ∷ 0x04 ∷ zeros 3
 
 abbrev pub lastReply : List ℕ
 lastReply = 0x33 ∷ 0x07 ∷ 0 ∷ replicate 32 0xdd ++ zeros 94
 
 pub record Uploads : Type 0 where
+  -- a job has the program's BLAKE2s digest
+  pub digests : (program : List ℕ) (id wait : ℕ) → length program ≤ 131072 → jobOf program id wait .digest ≡ blake2s [] program 32
   -- no line makes a load run forever: after so many events it is over
   pub ends : (job : Job) (es : List Event) → mostEvents job ≤ length es → isOver (runs job (opening job) es .next) ≡ true
   -- it succeeds exactly when each frame is answered so; the client takes no reply to a frame that it refuses
@@ -64,10 +67,10 @@ pub record Uploads : Type 0 where
   pub reads : (job : Job) (k : ℕ) (r : List ℕ) → length r ≡ 1 + bodyLen (headerAt (getD r 0 0))
       → runs job (turnOf (sentFrame job k) Send) (bytesOf r) .next ≡ afterReply job k (taking (job .len) (job .id) k r)
   -- literal events: a load with a silence in it, and what makes each failure
-  pub example : (runs small (opening small) (Silence ∷ bytesOf loadReply ++ bytesOf lastReply) .next ≡ Loaded)
+  pub example : (runs small (opening small) (Silence ∷ bytesOf firstReply ++ bytesOf lastReply) .next ≡ Loaded)
       × (runs small (opening small) (Byte 0x31 ∷ Silence ∷ Silence ∷ []) .next ≡ Failed NoAnswer)
       × (runs small (opening small) (Byte 0x31 ∷ Closed ∷ []) .next ≡ Failed LineClosed)
       × (runs small (opening small) (Byte 0x80 ∷ []) .next ≡ Failed UnexpectedReply)
       × (runs small (opening small) (bytesOf (0x31 ∷ 0x04 ∷ 1 ∷ 0 ∷ 0 ∷ [])) .next ≡ Failed Refused)
-      × (runs small (opening small) (bytesOf loadReply ++ bytesOf (0x33 ∷ 0x07 ∷ 0 ∷ replicate 32 0xde ++ zeros 94)) .next
+      × (runs small (opening small) (bytesOf firstReply ++ bytesOf (0x33 ∷ 0x07 ∷ 0 ∷ replicate 32 0xde ++ zeros 94)) .next
       ≡ Failed OtherDigest)

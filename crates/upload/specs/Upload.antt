@@ -4,8 +4,9 @@ use Prim.Native.Nat.{ℕ, _+_, _-_, _*_}
 use mathlib.Core.Bool.{Bool, true, false, not, cond}
 use mathlib.Core.List.{List, [], _∷_}
 use lib.Dec.{eqb, leb, ltb}
-use lib.ListN.{getD, set, take}
+use lib.ListN.{length, getD, set, take}
 use Rattle.endian.specs.Lists.{zeros, same}
+use Rattle.blake2s.specs.Hash.{hashOutput}
 use Rattle.framing.specs.Header.{headerAt, bodyLen}
 use Rattle.protocol.specs.Commands.{lengthOk, blocksFor, placeOf}
 use Rattle.client.specs.Replies.{Taking, taking}
@@ -14,16 +15,15 @@ use Rattle.upload.specs.declared.Exchange.{Exchange}
 use Rattle.upload.specs.declared.Event.{Event}
 use Rattle.upload.specs.declared.Event.the-variants.{Byte, Silence, Closed}
 use Rattle.upload.specs.declared.Failure.{Failure}
-use Rattle.upload.specs.declared.Failure.the-variants.{Arguments, Unreadable, ProgramLength, SecretLength, Device, NoAnswer, LineClosed, UnexpectedReply, Refused, OtherDigest}
+use Rattle.upload.specs.declared.Failure.the-variants.{ProgramLength, FrameId, SecretLength, Device, NoAnswer, LineClosed, UnexpectedReply, Refused, OtherDigest}
 use Rattle.upload.specs.declared.Next.{Next}
 use Rattle.upload.specs.declared.Next.the-variants.{Send, Wait, Loaded, Failed}
 use Rattle.upload.specs.declared.Turn.{Turn}
 
 -- the exit status of each failure; the script of `./load` gives 0 for a load and 1 where it could not be built
 abbrev pub exitNumber : Failure → ℕ
-exitNumber Arguments = 2
-exitNumber Unreadable = 3
 exitNumber ProgramLength = 3
+exitNumber FrameId = 2
 exitNumber SecretLength = 3
 exitNumber Device = 4
 exitNumber NoAnswer = 5
@@ -37,6 +37,10 @@ isOver Send = false
 isOver Wait = false
 isOver Loaded = true
 isOver (Failed why) = true
+
+-- what is to be loaded: the digest is that of the hash in one call, from 32 zeros, which a call that is refused leaves
+unfoldable pub jobOf : List ℕ → ℕ → ℕ → Job
+jobOf program id wait = record { len = length program; id = id; digest = hashOutput [] program (zeros 32); wait = wait }
 
 -- ---- turns
 
@@ -55,7 +59,7 @@ unfoldable pub opening : Job → Turn
 opening job =
     turnOf (sentFrame job 0)
     (cond (not (lengthOk (job .len))) (Failed ProgramLength)
-    (cond (ltb 3 (job .id)) (Failed Arguments) Send))
+    (cond (ltb 3 (job .id)) (Failed FrameId) Send))
 
 -- the digest that the head measured must be the program's
 abbrev pub afterLast : Job → List ℕ → Next

@@ -5,6 +5,7 @@ mod steps;
 ghost use mathlib.Core.Path.{_≡_};
 ghost use Rattle.upload.specs.Upload.{isOver, exitNumber};
 pub use steps::advance;
+pub use steps::job_of;
 pub use steps::open;
 pub use steps::read;
 
@@ -43,10 +44,9 @@ pub enum Event {
 
 // Why a program is not loaded.
 pub enum Failure {
-    Arguments,
-    // A file that cannot be read.
-    Unreadable,
     ProgramLength,
+    // A frame ID over 3.
+    FrameId,
     SecretLength,
     // A device that is no serial line.
     Device,
@@ -91,9 +91,8 @@ pub fn exit_number(f: Failure) -> u32
     ensures { λ r. ⌜ r ≡ exitNumber f ⌝ }
 {
     match f {
-        Failure::Arguments => 2,
-        Failure::Unreadable => 3,
         Failure::ProgramLength => 3,
+        Failure::FrameId => 2,
         Failure::SecretLength => 3,
         Failure::Device => 4,
         Failure::NoAnswer => 5,

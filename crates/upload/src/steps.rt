@@ -1,6 +1,6 @@
 // What is done next.
 ghost use mathlib.Core.Path.{_≡_};
-ghost use Rattle.upload.specs.Upload.{sentFrame, opening, turnOf, over, cameOf, afterLast, replied, received, silent, turned};
+ghost use Rattle.upload.specs.Upload.{jobOf, sentFrame, opening, turnOf, over, cameOf, afterLast, replied, received, silent, turned};
 ghost use Rattle.client.specs.Replies.{takingOf, taking};
 use super::Event;
 use super::Exchange;
@@ -10,6 +10,20 @@ use super::Next;
 use super::Turn;
 use client::Answer;
 use client::Taken;
+
+// What is to be loaded: this program, with its digest.
+pub fn job_of(program: &[u8], id: u8, wait: u32) -> Job
+    ensures { λ r. ⌜ r ≡ jobOf (now (program .entry)) id wait ⌝ }
+{
+    let mut digest = [0u8; 32];
+    blake2s::hash(&[], program, &mut digest);
+    Job {
+        len: program.len(),
+        id,
+        digest,
+        wait,
+    }
+}
 
 // Frame k, of whose reply nothing has come.
 fn sent(job: Job, k: u32) -> Exchange
@@ -42,7 +56,7 @@ pub fn open(job: Job) -> Turn
         return failed(exchange, Failure::ProgramLength);
     }
     if 3 < job.id {
-        return failed(exchange, Failure::Arguments);
+        return failed(exchange, Failure::FrameId);
     }
     Turn {
         exchange,

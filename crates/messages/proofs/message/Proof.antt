@@ -6,15 +6,15 @@ use Rattle.messages.proofs.message.Tie as tie
 
 returns : tie.Need-returns
 returns c =
-    rw (c .before .before .enum-told .given .1) (from-empty _ _ _ (c .before .before .before .before .empty .ensures) (c .put-all .ensures))
+    rw (c .before .enum-told .given .1) (from-empty _ _ _ (c .before .before .before .empty .ensures) (c .program-length .ensures))
 
 returns-2 : tie.Need-returns-2
 returns-2 c =
-    rw (c .before .before .enum-told2 .given .1) (from-empty _ _ _ (c .before .before .before .before .empty .ensures) (c .put-all2 .ensures))
+    rw (c .before .before .enum-told2 .given .1) (from-empty _ _ _ (c .before .before .before .before .empty .ensures) (c .put-all .ensures))
 
 returns-3 : tie.Need-returns-3
 returns-3 c =
-    rw (c .before .enum-told3 .given .1) (from-empty _ _ _ (c .before .before .before .empty .ensures) (c .program-length .ensures))
+    rw (c .before .before .enum-told3 .given .1) (from-empty _ _ _ (c .before .before .before .before .empty .ensures) (c .put-all2 .ensures))
 
 returns-4 : tie.Need-returns-4
 returns-4 c =
@@ -22,27 +22,56 @@ returns-4 c =
 
 returns-5 : tie.Need-returns-5
 returns-5 c =
-    rw (c .before .before .enum-told5 .given .1) (from-empty _ _ _ (c .before .before .before .before .empty .ensures) (c .put-all4 .ensures))
+    rw (c .before .enum-told5 .given .1) (from-empty _ _ _ (c .before .before .before .empty .ensures) (c .no-answer .ensures))
 
 returns-6 : tie.Need-returns-6
 returns-6 c =
-    rw (c .before .enum-told6 .given .1) (from-empty _ _ _ (c .before .before .before .empty .ensures) (c .no-answer .ensures))
+    rw (c .before .enum-told6 .given .1) (from-empty _ _ _ (c .before .before .before .empty .ensures) (c .line-closed .ensures))
 
 returns-7 : tie.Need-returns-7
 returns-7 c =
-    rw (c .before .enum-told7 .given .1) (from-empty _ _ _ (c .before .before .before .empty .ensures) (c .line-closed .ensures))
+    rw (c .before .enum-told7 .given .1) (from-empty _ _ _ (c .before .before .before .empty .ensures) (c .unexpected-reply .ensures))
 
 returns-8 : tie.Need-returns-8
 returns-8 c =
-    rw (c .before .enum-told8 .given .1) (from-empty _ _ _ (c .before .before .before .empty .ensures) (c .unexpected-reply .ensures))
+    rw (c .before .enum-told8 .given .1) (from-empty _ _ _ (c .before .before .before .empty .ensures) (c .refused-frame .ensures))
 
 returns-9 : tie.Need-returns-9
 returns-9 c =
-    rw (c .before .enum-told9 .given .1) (from-empty _ _ _ (c .before .before .before .empty .ensures) (c .refused-frame .ensures))
-
-returns-10 : tie.Need-returns-10
-returns-10 c =
-    rw (c .before .enum-told10 .given .1) (from-empty _ _ _ (c .before .before .before .empty .ensures) (c .other-digest .ensures))
+    rw (c .before .enum-told9 .given .1) (from-empty _ _ _ (c .before .before .before .empty .ensures) (c .other-digest .ensures))
 
 pub message-spec : {M : Type 1} → statement M
-message-spec = tie.close (tie.spec (λ c κs. search needs) (λ c. search needs) (λ c. search needs) (λ c κs. search needs) (λ c. search needs) (λ c. search needs) (λ c κs. search needs) (λ c. search needs) (λ c κs. search needs) (λ c. search needs) (λ c. search needs) (λ c κs. search needs) (λ c. search needs) (λ c. search needs) (λ c κs. search needs) (λ c. search needs) (λ c κs. search needs) (λ c. search needs) (λ c κs. search needs) (λ c. search needs) (λ c κs. search needs) (λ c. search needs) (λ c κs. search needs) (λ c. search needs) (λ c κs. search needs) returns returns-2 returns-3 returns-4 returns-5 returns-6 returns-7 returns-8 returns-9 returns-10)
+message-spec =
+    tie.close
+    (tie.spec
+    (λ c κs. search needs)
+    (λ c. search needs)
+    (λ c κs. search needs)
+    (λ c. search needs)
+    (λ c. search needs)
+    (λ c κs. search needs)
+    (λ c. search needs)
+    (λ c. search needs)
+    (λ c κs. search needs)
+    (λ c. search needs)
+    (λ c. search needs)
+    (λ c κs. search needs)
+    (λ c. search needs)
+    (λ c κs. search needs)
+    (λ c. search needs)
+    (λ c κs. search needs)
+    (λ c. search needs)
+    (λ c κs. search needs)
+    (λ c. search needs)
+    (λ c κs. search needs)
+    (λ c. search needs)
+    (λ c κs. search needs)
+    returns
+    returns-2
+    returns-3
+    returns-4
+    returns-5
+    returns-6
+    returns-7
+    returns-8
+    returns-9)

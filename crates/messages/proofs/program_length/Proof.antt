@@ -13,4 +13,12 @@ returns-2 c =
     rw (ne-eqb _ _ (c .before .before .if1 .left)) (c .put-all2 .ensures)
 
 pub program-length-spec : {M : Type 1} → statement M
-program-length-spec = tie.close (tie.spec (λ c. search needs) (λ c κs. search needs) returns (λ c. search needs) (λ c κs. search needs) returns-2)
+program-length-spec =
+    tie.close
+    (tie.spec
+    (λ c. search needs)
+    (λ c κs. search needs)
+    returns
+    (λ c. search needs)
+    (λ c κs. search needs)
+    returns-2)

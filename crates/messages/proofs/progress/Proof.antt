@@ -19,14 +19,26 @@ put-line-requires c κs =
     let l = c .before .before .before .length-ok in
     let e = c .least .ensures in
     let b = c .before .blocks2 .ensures in
-    let k = length-ok-bounds (c .before .before .before .before .before .args .len) (sym (l .ensures) ∙ not-false (l .result) (c .before .before .if1 .left)) in
+    let n = c .before .before .before .before .before .args .len in
+    let k = length-ok-bounds n (sym (l .ensures) ∙ not-false (l .result) (c .before .before .if1 .left)) in
     (b, omega (arith, e), omega (arith, b, k .0), omega (arith, b, k .1))
 
 returns-2 : tie.Need-returns-2
 unfolding progressLine
 returns-2 c =
     let l = c .before .before .before .before .length-ok in
-    rw (← (l .ensures), not-false (l .result) (c .before .before .before .if1 .left), ← (rw (c .before .before .blocks2 .ensures) at (c .before .least .ensures))) (from-empty _ _ _ (c .before .before .before .before .before .empty .ensures) (c .put-line .ensures))
+    let d = rw (c .before .before .blocks2 .ensures) at (c .before .least .ensures) in
+    rw (← (l .ensures), not-false (l .result) (c .before .before .before .if1 .left), ← d)
+    (from-empty _ _ _ (c .before .before .before .before .before .empty .ensures) (c .put-line .ensures))
 
 pub progress-spec : {M : Type 1} → statement M
-progress-spec = tie.close (tie.spec (λ c κs. search needs) (λ c κs. search needs) returns (λ c κs. search needs) (λ c κs. search needs) put-line-requires returns-2)
+progress-spec =
+    tie.close
+    (tie.spec
+    (λ c κs. search needs)
+    (λ c κs. search needs)
+    returns
+    (λ c κs. search needs)
+    (λ c κs. search needs)
+    put-line-requires
+    returns-2)

@@ -29,7 +29,8 @@ loop-less c =
     let x = l .before .loop .t .exchange in
     let job = l .before .before .before .before .before .before .before .args .job in
     let f : isOver (a .result .next) ≡ false → left job (a .result .exchange) < left job x = rw (a .ensures) (fewer job x e) in
-    less (l .before .loop .over) (c .before .is-over2 .result) (left job x) (left job (a .result .exchange)) (l .loop-test .taken) (λ h. f (sym (c .before .is-over2 .ensures) ∙ h))
+    less (l .before .loop .over) (c .before .is-over2 .result) (left job x) (left job (a .result .exchange)) (l .loop-test .taken)
+    (λ h. f (sym (c .before .is-over2 .ensures) ∙ h))
 
 pub converse-spec : {M : Type 1} → statement M
 converse-spec =

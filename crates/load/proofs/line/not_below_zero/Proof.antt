@@ -20,7 +20,8 @@ whole (negsuc k) e f = impossible cc
 cast-result : tie.Need-cast-result
 cast-result c =
     let s = toZ-ofZ w64 (c .before .args .n) (c .before .fits .n) in
-    subst (λ (z : ℤ). T (nonNeg z) × Fits w64 (natAbs z)) (sym s) (whole (c .before .args .n) (subst (λ (z : ℤ). ltZ z (pos 0) ≡ false) s (c .if1 .left)) (c .before .fits .n))
+    let t = subst (λ (z : ℤ). ltZ z (pos 0) ≡ false) s (c .if1 .left) in
+    subst (λ (z : ℤ). T (nonNeg z) × Fits w64 (natAbs z)) (sym s) (whole (c .before .args .n) t (c .before .fits .n))
 
 pub not-below-zero-spec : {M : Type 1} → statement M
 not-below-zero-spec = tie.close (tie.spec (λ c. search needs) cast-result (λ c. search needs))

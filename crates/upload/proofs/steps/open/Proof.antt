@@ -16,7 +16,8 @@ unfolding opening
 returns-2 c =
     let e = c .before .before .before in
     let l = e .before .length-ok in
-    rw (c .failed2 .ensures, e .before .before .sent .ensures, ← (l .ensures), not-false (l .result) (e .if1 .left), lt-ltb _ _ (c .before .if2 .taken))
+    let o = not-false (l .result) (e .if1 .left) in
+    rw (c .failed2 .ensures, e .before .before .sent .ensures, ← (l .ensures), o, lt-ltb _ _ (c .before .if2 .taken))
 
 returns-3 : tie.Need-returns-3
 unfolding opening

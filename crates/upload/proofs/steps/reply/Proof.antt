@@ -46,7 +46,8 @@ returns-3 c =
     let j = c .before .before in
     let i = j .before .before .before in
     let m = i .before .before .before in
-    rw (c .sent .ensures, ← (m .before .read .ensures), accepted m, i .if1 .left, ← (j .before .before .place-of .ensures), lt-ltb _ _ (j .if2 .taken))
+    let p = j .before .before .place-of .ensures in
+    rw (c .sent .ensures, ← (m .before .read .ensures), accepted m, i .if1 .left, ← p, lt-ltb _ _ (j .if2 .taken))
 
 returns-4 : tie.Need-returns-4
 unfolding replied
@@ -54,7 +55,8 @@ returns-4 c =
     let j = c .before .before in
     let i = j .before .before .before in
     let m = i .before .before .before in
-    rw (c .check-digest .ensures, ← (m .before .read .ensures), accepted m, i .if1 .left, ← (j .before .before .place-of .ensures), le-ltb _ _ (j .if2 .left), last-turn)
+    let p = j .before .before .place-of .ensures in
+    rw (c .check-digest .ensures, ← (m .before .read .ensures), accepted m, i .if1 .left, ← p, le-ltb _ _ (j .if2 .left), last-turn)
 
 pub reply-spec : {M : Type 1} → statement M
 reply-spec =
