@@ -2,7 +2,7 @@
 
     done = play([LOAD, TTY, FILE], answering())     a head that answers as it should
     done = play([LOAD, TTY, FILE], silent)          one that never answers
-    done.status, done.out, done.err
+    done.status, done.out, done.err, done.sent
 
 A peer is a function of a `Line`. Whatever it does, it ends with the command.
 """
@@ -30,20 +30,31 @@ class Line:
     def __init__(self, fd, over=None):
         self.fd = fd
         self.over = over or threading.Event()
+        self.heard = b""  # all that was ever read here
         os.set_blocking(fd, False)
 
     def some(self, seconds=SECONDS, most=4096):
-        """What there is, as soon as there is some; nothing if none came or the other end is closed."""
+        """What there is, as soon as there is some; nothing if none came or the other end is closed. It looks at least once."""
         end = time.monotonic() + seconds
-        while not self.over.is_set() and time.monotonic() < end:
-            if select.select([self.fd], [], [], min(STEP, seconds))[0]:
+        while True:
+            if select.select([self.fd], [], [], max(0, min(STEP, end - time.monotonic())))[0]:
                 try:
-                    return os.read(self.fd, most)
+                    data = os.read(self.fd, most)
+                    self.heard += data
+                    return data
                 except BlockingIOError:
-                    continue
+                    pass
                 except OSError:
                     return b""
-        return b""
+            if self.over.is_set() or time.monotonic() >= end:
+                return b""
+
+    def rest(self):
+        """All that has come and is not read yet."""
+        data = b""
+        while more := self.some(0):
+            data += more
+        return data
 
     def read(self, count, seconds=SECONDS):
         """So many bytes, or fewer if they do not come in time."""
@@ -80,12 +91,15 @@ def opened(name):
 
 
 class Terminal:
-    """A new terminal: `line` is the other end of `name`. It stays open while commands open and close it, until it is closed."""
+    """A new terminal: `line` is the other end of `name`. It stays open while commands open and close it, until it is closed. It is raw, and
+    then as these words for `stty` say."""
 
-    def __init__(self):
+    def __init__(self, *modes):
         master, self.slave = os.openpty()
         tty.setraw(self.slave)
         self.name = os.ttyname(self.slave)
+        if modes:
+            subprocess.run(["stty", "-F", self.name, *modes], check=True)
         self.line = Line(master)
         self.is_open = True
 
@@ -112,16 +126,19 @@ class Done:
     status: int
     out: str
     err: str
+    sent: bytes
     seconds: float
 
 
-def play(command, peer, seconds=SECONDS):
-    """Runs a command, with the terminal's name for TTY, while the peer is at the other end; one that is not over in time is killed."""
-    terminal = Terminal()
+def play(command, peer, modes=(), screen=None, seconds=SECONDS):
+    """Runs a command, with the terminal's name for TTY, while the peer is at the other end; one that is not over in time is killed. Standard
+    error is a pipe, or goes to a screen, which is a Terminal."""
+    terminal = Terminal(*modes)
     terminal.line.pull = terminal.pull
     words = [terminal.name if word == TTY else word for word in command]
+    error = screen.slave if screen else subprocess.PIPE
     began = time.monotonic()
-    process = subprocess.Popen(words, stdin=subprocess.DEVNULL, stdout=subprocess.PIPE, stderr=subprocess.PIPE)
+    process = subprocess.Popen(words, stdin=subprocess.DEVNULL, stdout=subprocess.PIPE, stderr=error)
     thread = threading.Thread(target=peer, args=[terminal.line], daemon=True)
     thread.start()
     try:
@@ -132,8 +149,10 @@ def play(command, peer, seconds=SECONDS):
     took = time.monotonic() - began
     terminal.line.over.set()
     thread.join()
+    if terminal.is_open:
+        terminal.line.rest()
     terminal.close()
-    return Done(process.returncode, out.decode(), err.decode(), took)
+    return Done(process.returncode, out.decode(), (screen.line.rest() if screen else err).decode(), terminal.line.heard, took)
 
 
 # ---- peers

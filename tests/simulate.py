@@ -6,7 +6,6 @@ import concurrent.futures
 import itertools
 import os
 import random
-import shutil
 import signal
 import subprocess
 import sys
@@ -15,6 +14,7 @@ import threading
 import time
 from pathlib import Path
 
+import built
 import server
 from head import RAM_MOST, blake2s
 from pty_peer import Terminal, opened
@@ -47,9 +47,9 @@ def expect(what, got, wanted):
 class Head:
     """A simulation, and the client's end of its terminal."""
 
-    def __init__(self, *options, command=SIMULATE, out=subprocess.PIPE):
+    def __init__(self, *options, command=SIMULATE, out=subprocess.PIPE, **place):
         words = [command, *map(str, options)]
-        self.process = subprocess.Popen(words, stdin=subprocess.DEVNULL, stdout=out, stderr=subprocess.PIPE, bufsize=0)
+        self.process = subprocess.Popen(words, stdin=subprocess.DEVNULL, stdout=out, stderr=subprocess.PIPE, bufsize=0, **place)
         self.limit = threading.Timer(SECONDS, self.process.kill)
         self.limit.start()
         if out == subprocess.PIPE:
@@ -71,6 +71,12 @@ class Head:
             if reopen:
                 self.line.close()
                 self.line = opened(self.name)
+
+    def stops(self, sent, number, out):
+        """Stops without a reply: none has come when the line closes."""
+        self.line.write(sent)
+        expect("a reply", self.line.some(), b"")
+        self.ends(number, out)
 
     def ends(self, status, out, err=""):
         got = self.process.communicate()
@@ -156,23 +162,16 @@ def other_digest(folder):
     head.ends(25, shown(b"another program", STOPS[25]))
 
 
-def stops(number, *frames):
-    """The head stops without a reply, with the lamp's reason."""
-
-    def case(folder):
-        head = Head()
-        head.line.write(b"".join(frames))
-        head.ends(number, "waiting\n" + STOPS[number])
-
-    return case
+def stops(number, sent):
+    """The head stops, with the lamp's reason."""
+    return lambda folder: Head().stops(sent, number, "waiting\n" + STOPS[number])
 
 
 def stops_while_loading(folder):
     head = Head()
     for k in range(2):
         head.ask(server.frame(bytes(300), 0, None, k), server.reply(300, 0, k, 0, b""))
-    head.line.write(b"\x10\x01")
-    head.ends(23, "waiting\nloading 300 bytes\n" + STOPS[23])
+    head.stops(b"\x10\x01", 23, "waiting\nloading 300 bytes\n" + STOPS[23])
 
 
 # ---- what a terminal shows
@@ -193,51 +192,48 @@ def terminal_start(folder):
     program = b"t" * 300
     head, screen = on_terminal()
     head.load(program)
-    lines = "waiting\nloading 300 bytes\n\rblock 1 of 3\rblock 2 of 3\rblock 3 of 3\n" + started(program)
-    expect("on a terminal", screen.line.read(len(lines)).decode(), lines)
     head.ends(0, None)
-    expect("behind it", screen.line.some(0), b"")
+    lines = "waiting\nloading 300 bytes\n\rblock 1 of 3\rblock 2 of 3\rblock 3 of 3\n" + started(program)
+    expect("on a terminal", screen.line.rest().decode(), lines)
 
 
 def terminal_stop(folder):
     head, screen = on_terminal()
     for k in range(2):
         head.ask(server.frame(bytes(300), 0, None, k), server.reply(300, 0, k, 0, b""))
-    head.line.write(b"\x90")
-    lines = "waiting\nloading 300 bytes\n\rblock 1 of 3\n" + STOPS[22]
-    expect("on a terminal", screen.line.read(len(lines)).decode(), lines)
-    head.ends(22, None)
+    head.stops(b"\x90", 22, None)
+    expect("on a terminal", screen.line.rest().decode(), "waiting\nloading 300 bytes\n\rblock 1 of 3\n" + STOPS[22])
 
 
 # ---- commands that do not come so far
 
 BAD = [
-    ["--type", "5"],
-    ["--type", "4", "--require", SIMULATE],
-    ["--type", "3"],
-    ["--type", "x"],
-    ["--require", "no such file"],
-    ["--require", "/"],
-    ["--require"],
-    ["--ram", "0"],
-    ["--ram", "131073"],
-    ["--ram", "-1"],
-    ["--ram", "1_0"],
-    ["--uds", "00"],
-    ["--uds", "zz" * 32],
-    ["--measured-id", "00" * 33],
-    ["--mea", "00" * 32],
-    ["program"],
+    "--type 5",
+    "--type 4 --require $0",
+    "--type 3",
+    "--type x",
+    "--require 'no such file'",
+    "--require /",
+    "--require",
+    "--ram 0",
+    "--ram 131073",
+    "--ram -1",
+    "--ram 1_0",
+    "--uds 00",
+    f"--uds {'zz' * 32}",
+    f"--measured-id {'00' * 33}",
+    f"--mea {'00' * 32}",
+    "program",
 ]
 
 
-def bad(options):
-    """One line, and nothing else."""
+def one_line(status, words):
+    """A command with these words ends with one line, and nothing else."""
 
     def case(folder):
-        done = subprocess.run([SIMULATE, *options], stdin=subprocess.DEVNULL, capture_output=True, timeout=SECONDS)
-        lines = done.stderr.decode().splitlines()
-        expect(f"{options}", (done.returncode, done.stdout, len(lines), lines[0][:10]), (2, b"", 1, "simulate: "))
+        done = subprocess.run(["sh", "-c", f'exec "$0" {words}', SIMULATE], stdin=subprocess.DEVNULL, capture_output=True, timeout=SECONDS)
+        lines = done.stderr.decode().splitlines() or [""]
+        expect(words, (done.returncode, done.stdout, len(lines), lines[0][:10]), (status, b"", 1, "simulate: "))
 
     return case
 
@@ -255,27 +251,52 @@ def usage(folder):
     expect("--help", (done.returncode, done.stdout[:18], done.stderr), (0, b"usage: ./simulate ", b""))
 
 
-def not_built(folder):
+def not_built(*command):
     """The log of a build that fails, and status 1."""
-    top = folder / "a copy"
-    for part in ("crates", "bin"):
-        (top / part).mkdir(parents=True)
-    (top / "crates.txt").touch()
-    shutil.copy(SIMULATE, top)
-    shutil.copytree(TOP / "scripts", top / "scripts")
-    (top / "bin" / "rt").write_text("#!/bin/sh\necho not proved\nexit 1\n")
-    (top / "bin" / "rt").chmod(0o755)
-    environment = {**os.environ, "PATH": f"{top}/bin:{os.environ['PATH']}"}
-    done = subprocess.run([top / "simulate"], env=environment, capture_output=True, timeout=SECONDS)
-    expect("not built", (done.returncode, done.stdout, done.stderr), (1, b"", b"not proved\n"))
+
+    def case(folder):
+        copy = built.Copy(folder / f"a copy for {command[0]}")
+        (copy.top / "fails").touch()
+        expect("not built", copy.ended(*command), (b"", built.LOG, 1))
+
+    return case
+
+
+def child(process):
+    """The program behind a command."""
+    return int(Path(f"/proc/{process.pid}/task/{process.pid}/children").read_text().split()[0])
+
+
+def ended_by(number, process, send=os.kill):
+    """A signal ends a command with the status that a shell gives it, and without a word; the program behind it is dead then."""
+    program = child(process)
+    send(process.pid, number)
+    got = (*process.communicate(timeout=SECONDS), process.returncode, Path(f"/proc/{program}").exists())
+    expect("output, error, status, and whether the program lives", got, (b"", b"", 128 + number, False))
+
+
+def ended(number):
+    def case(folder):
+        head = Head()
+        expect("the first line", head.process.stdout.readline(), b"waiting\n")
+        ended_by(number, head.process)
+        head.limit.cancel()
+
+    return case
+
+
+def elsewhere(folder):
+    for name, place in built.elsewhere(folder, TOP, "simulate"):
+        head = Head(command=name, **place)
+        head.load(b"x")
+        head.ends(0, shown(b"x", started(b"x")))
 
 
 def dies(folder):
     """The head's program is killed: status 1."""
     head = Head()
-    children = Path(f"/proc/{head.process.pid}/task/{head.process.pid}/children")
     expect("the first line", head.process.stdout.readline(), b"waiting\n")
-    os.kill(int(children.read_text().split()[0]), signal.SIGKILL)
+    os.kill(child(head.process), signal.SIGKILL)
     head.ends(1, "", "simulate: the program died\n")
 
 
@@ -286,14 +307,18 @@ def cases():
         yield what, lambda folder, given=(seed, size, kind, chained, secret): load(folder, *given)
     for case in (no_room, opened_often, read_late, never_read, other_digest, stops_while_loading, terminal_start, terminal_stop):
         yield case.__name__, case
-    for case in (readme, usage, not_built, dies):
+    for case in (readme, usage, elsewhere, dies):
         yield case.__name__, case
-    yield "stop 22", stops(22, b"\x90")
-    yield "stop 22 after a query", stops(22, b"\x14")
+    yield "not built", not_built("simulate")
+    yield "SIGTERM", ended(signal.SIGTERM)
+    yield "SIGINT", ended(signal.SIGINT)
+    yield "stop 22, bit 7", stops(22, b"\x90")
+    yield "stop 22, bit 2", stops(22, b"\x14")
     yield "stop 23", stops(23, server.frame(b"program", 0, None, 1))
     yield "stop 24", stops(24, server.whole(0, b"\x01", 4))
     for options in BAD:
-        yield f"bad arguments {options}", bad(options)
+        yield f"bad arguments {options}", one_line(2, options)
+    yield "no room for the name", one_line(1, "> /dev/full")
 
 
 def wrong(what, case, folder):
@@ -307,6 +332,7 @@ def wrong(what, case, folder):
 
 def run_all(cases, *programs):
     """Builds the programs, runs the cases, four beside each other, and gives the exit status."""
+    signal.signal(signal.SIGINT, signal.default_int_handler)  # a shell starts what runs beside it without one
     for name in programs:
         subprocess.run([TOP / "scripts" / "built", name], check=True, stdout=subprocess.DEVNULL)
     with tempfile.TemporaryDirectory() as name, concurrent.futures.ThreadPoolExecutor(4) as pool:
