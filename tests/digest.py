@@ -7,13 +7,13 @@
 import hashlib
 import os
 import random
-import shutil
 import subprocess
 import sys
 import tempfile
 import time
 from pathlib import Path
 
+import built
 import pty_peer
 
 TOP = Path(__file__).resolve().parent.parent
@@ -33,8 +33,8 @@ def longest():
     return digest.hexdigest()
 
 
-def started(*words, command=DIGEST):
-    return subprocess.Popen([command, *words], stdin=subprocess.DEVNULL, stdout=subprocess.PIPE, stderr=subprocess.PIPE)
+def started(*words, command=DIGEST, **place):
+    return subprocess.Popen([command, *words], **built.PIPES, **place)
 
 
 def differs(what, process, status, out, err):
@@ -50,8 +50,9 @@ def differs(what, process, status, out, err):
     return 1
 
 
-def refused(name, why, **command):
-    return differs(name, started(name, **command), 1, "", f"digest: {name}: {why}\n")
+def refused(name, why):
+    """One line, with the first 4,096 bytes of the name."""
+    return differs(name, started(name), 1, "", f"digest: {name[:4096]}: {why}\n")
 
 
 # ---- files that are hashed
@@ -67,8 +68,9 @@ def hashed(folder):
             file.write(data)
         yield differs(name, started(name), 0, f"{hashlib.blake2s(data).hexdigest()}  {name}\n", "")
     own = hashlib.blake2s((folder / "-n").read_bytes()).hexdigest()
-    here = subprocess.Popen([DIGEST, "-n"], cwd=folder, stdout=subprocess.PIPE, stderr=subprocess.PIPE)  # another folder, and no option
-    yield differs("-n", here, 0, f"{own}  -n\n", "")
+    yield differs("-n", started("-n", cwd=folder), 0, f"{own}  -n\n", "")  # another folder, and no option
+    for command, place in built.elsewhere(folder, TOP, "digest"):
+        yield differs(command, started(folder / "-n", command=command, **place), 0, f"{own}  {folder}/-n\n", "")
 
 
 def sparse(folder, size):
@@ -90,19 +92,20 @@ def unreadable(folder):
         secret.chmod(0)
         return refused(str(secret), "Permission denied")
     secret.chmod(0o600)
-    shutil.copy(DIGEST, folder)
-    (folder / "scripts").mkdir()
-    shutil.copy(BINARY, folder / "binary")
-    built = folder / "scripts" / "built"
-    built.write_text(f'#!/bin/sh\necho "{folder}/binary"\n')
-    built.chmod(0o755)
+    copy = built.Copy(folder / "nobody's", BINARY)
+    copy.ended("scripts/built", "digest")
     folder.chmod(0o755)
-    nobody = subprocess.Popen(
-        ["setpriv", "--reuid", "65534", "--regid", "65534", "--clear-groups", folder / "digest", secret],
-        stdout=subprocess.PIPE,
-        stderr=subprocess.PIPE,
-    )
-    return differs("no permission", nobody, 1, "", f"digest: {secret}: Permission denied\n")
+    return differs("no permission", copy.started("digest", secret, behind=built.NOBODY), 1, "", f"digest: {secret}: Permission denied\n")
+
+
+def no_program(folder):
+    """One that cannot be built, and one that dies."""
+    copy = built.Copy(folder / "no program", "#!/bin/sh\nkill -9 $$\n")
+    fails = copy.top / "fails"
+    fails.touch()
+    yield differs("not built", copy.started("digest", "x"), 1, "", built.LOG.decode())
+    fails.unlink()
+    yield differs("a program that dies", copy.started("digest", "x"), 1, "", "")
 
 
 def is_waiting(name):
@@ -133,13 +136,15 @@ def not_hashed(folder):
     yield refused(str(folder / "missing"), "No such file or directory")
     yield refused(str(folder), "Is a directory")
     yield refused("", "No such file or directory")
-    yield refused("x" * 4096, "File name too long")
+    for length in (4096, 5000):
+        yield refused("x" * length, "File name too long")
     yield unreadable(folder)
+    yield from no_program(folder)
     yield breaks_off()
     usage = "digest: usage: ./digest PROGRAM\n"
     yield differs("no argument", started(), 1, "", usage)
     yield differs("two arguments", started("a", "b"), 1, "", usage)
-    full = subprocess.Popen(["sh", "-c", f'exec "{DIGEST}" "{DIGEST}" > /dev/full'], stdout=subprocess.PIPE, stderr=subprocess.PIPE)
+    full = started("-c", 'exec "$0" "$0" > /dev/full', DIGEST, command="sh")
     yield differs("no room for the line", full, 1, "", f"digest: {DIGEST}: No space left on device\n")
 
 

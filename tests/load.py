@@ -9,7 +9,6 @@ import itertools
 import os
 import random
 import re
-import shutil
 import signal
 import struct
 import subprocess
@@ -19,20 +18,35 @@ import termios
 import time
 from pathlib import Path
 
+import built
 import pty_peer
 import server
 import simulate
 from head import RAM_MOST, blake2s
 from pty_peer import TTY, Terminal, answering, echo, play, silent
-from simulate import Head, expect, shown, started
+from simulate import Head, child, ended_by, expect, shown, started
 
 TOP = Path(__file__).resolve().parent.parent
 LOAD = TOP / "load"
 SECONDS = 30
 MEANING = "a head of type 4 has started it; one of type 5 has if its record requires this digest, and shows its lamp (25) otherwise\n"
 AGAIN = "; reset the head and load again"
-WAITING = "; is the head waiting for a program? has it stopped?"
+WAITING = " of silence; is the head waiting for a program? has it stopped?"
 CLOSED = " was whole; is the cable plugged in? has the head power?"
+
+# of ./load --help
+STATUSES = {
+    0: "loaded",
+    1: "the program could not be proved and built, or died",
+    2: "bad arguments",
+    3: "a file cannot be read, PROGRAM has no byte or over 131072, or the secret has not 32",
+    4: "DEVICE cannot be opened, or is not a serial line",
+    5: "no answer in time",
+    6: "the line closed",
+    7: "a reply that is not the expected one (43)",
+    8: "the head answered with status 1: to the load, the program does not fit its RAM",
+    9: "the head measured another digest than the program's",
+}
 
 
 def loaded(program):
@@ -45,9 +59,18 @@ def written(folder, name, data):
     return path
 
 
-def run(*words, **more):
-    done = subprocess.run([LOAD, *map(str, words)], stdin=subprocess.DEVNULL, capture_output=True, timeout=SECONDS, **more)
-    return done.returncode, done.stdout.decode(), done.stderr.decode()
+def ran(process):
+    """Exit status, standard output and error of a command that comes to its end."""
+    out, err = process.communicate(timeout=SECONDS)
+    return process.returncode, out.decode(), err.decode()
+
+
+def running(*words, command=LOAD, **place):
+    return subprocess.Popen([command, *map(str, words)], **built.PIPES, **place)
+
+
+def run(*words, **place):
+    return ran(running(*words, **place))
 
 
 # ---- against ./simulate
@@ -85,30 +108,26 @@ def no_room(folder):
 PROGRAM = bytes(range(256)) + bytes(44)  # three blocks
 
 
-def meets(peer, status, err, frames, program=PROGRAM, wait="0.5", id=0, out="", most=4.0):
-    """./load meets this head: it ends so, having sent the load and the blocks up to so many frames and not a byte more."""
+# One whose digest has what a terminal may take for its own: line ends, a mark, and the end of a pause.
+MARKED = next(program for program in (n.to_bytes(3, "big") for n in itertools.count()) if {0x0A, 0x0D, 0x11, 0xFF} < set(blake2s(program)))
+
+
+def meets(peer, status, err, frames, program=PROGRAM, wait="0.5", id=0, out="", most=4.0, modes=(), redirected="", on_screen=False):
+    """./load meets this head, on a line that has these modes before: it ends so, having sent the load and the blocks up to so many frames and
+    not a byte more. Standard error is these words, or like this pattern."""
 
     def case(folder):
         path = written(Path(tempfile.mkdtemp(dir=folder)), "program", program)
-        sent = bytearray()
-
-        def listening(line):
-            some = line.some
-
-            def heard(*given):
-                data = some(*given)
-                sent.extend(data)
-                return data
-
-            line.some = heard
-            peer(line)
-
-        done = play([LOAD, TTY, path, "--wait", wait, "--id", str(id)], listening, SECONDS)
-        words = f"load: TTY: {err}\n" if status else err
+        command = ["sh", "-c", f'exec "$0" "$@" {redirected}', LOAD, TTY, path, "--wait", wait, "--id", str(id)]
+        screen = Terminal() if on_screen else None
+        done = play(command, peer, modes, screen, SECONDS)
         got = re.sub("/dev/pts/[0-9]+", "TTY", done.err)
-        expect("exit status, standard output and error", (done.status, done.out, got), (status, out, words))
-        expect("sent", bytes(sent), b"".join(server.frame(program, id, None, k) for k in range(frames)))
+        wanted = got if isinstance(err, re.Pattern) and err.fullmatch(got) else err
+        expect("exit status, standard output and error", (done.status, done.out, got), (status, out, wanted))
+        expect("sent", done.sent, b"".join(server.frame(program, id, None, k) for k in range(frames)))
         expect(f"over within {most} s", done.seconds < most, True)
+        if screen:
+            screen.close()
 
     return case
 
@@ -122,9 +141,24 @@ def put(place, value):
     return lambda reply: reply[:place] + bytes([value]) + reply[place + 1 :]
 
 
+def failed(why):
+    return f"load: TTY: {why}\n"
+
+
+def name_of(k):
+    return "frame 0 (the load)" if k == 0 else f"frame {k} (block {k} of 3)"
+
+
+def unanswered(k, seconds="0.5", came="no answer"):
+    return failed(f"{came} to {name_of(k)} in {seconds} s{WAITING}")
+
+
 def unexpected(k, name, hex):
-    frame = "frame 0 (the load)" if k == 0 else f"frame {k} (block {k} of 3)"
-    return f"the reply to {frame} is not the expected one (43), its {name} differs: {hex}{AGAIN}"
+    return failed(f"the reply to {name_of(k)} is not the expected one (43), its {name} differs: {hex}{AGAIN}")
+
+
+def closed(k):
+    return failed(f"the line closed before the reply to {name_of(k)}{CLOSED}")
 
 
 def garbage(line):
@@ -160,18 +194,51 @@ def slow(line):
         pty_peer.send(line, server.reply(300, 0, k, 0, blake2s(PROGRAM)), 0.15 if k == 0 else 0)
 
 
+def dripping(line):
+    """A byte every now and then, without end, with a silence before each: the silences count, and the load is over after half a second."""
+    line.read(129)
+    while not line.over.wait(0.15):
+        line.write(b"\x13")
+
+
+def second(line):
+    """The first block takes a second."""
+    for k in range(4):
+        line.read(129)
+        line.over.wait(1.1 if k == 1 else 0)
+        line.write(server.reply(300, 0, k, 0, blake2s(PROGRAM)))
+
+
+SOME_RATE = "(, [0-9]+ bytes/s)?"  # a load of no time may pass from one second to the next
+
+
+def on_terminal(blocks, words, rates=(SOME_RATE,) * 4):
+    """A line that is rewritten up to so many blocks of the three, with these rates, and then words."""
+    parts = zip((0, 10, 21, 32), (0, 33, 66, 100), rates)
+    bars = [
+        re.escape(f"\r[{'#' * n}{'.' * (32 - n)}] {k} of 3 blocks, {percent}%") + rate + re.escape("\x1b[K")
+        for k, (n, percent, rate) in enumerate(parts)
+    ]
+    return re.compile("".join(bars[: blocks + 1]) + re.escape("\n" + words))
+
+
 last = server.reply(300, 0, 3, 0, blake2s(PROGRAM))
 other = blake2s(b"another")
+whole = {"out": loaded(PROGRAM)}
+screen = {"on_screen": True}
+RATES = [SOME_RATE, ", (127|63) bytes/s", ", (254|127|84) bytes/s", ", (300|150|100) bytes/s"]
 LINES = [
-    ("a good head", answering(), 0, MEANING, 4, {"out": loaded(PROGRAM)}),
-    ("a slow reply", slow, 0, MEANING, 4, {"out": loaded(PROGRAM), "wait": "2"}),
-    ("silence", silent, 5, f"no answer to frame 0 (the load) in 0.5 s{WAITING}", 1, {}),
-    ("silence at a block", at(2, lambda reply: b""), 5, f"no answer to frame 2 (block 2 of 3) in 0.5 s{WAITING}", 3, {}),
-    ("a second of silence", silent, 5, f"no answer to frame 0 (the load) in 1 s{WAITING}", 1, {"wait": "1"}),
-    ("a truncated reply", at(1, lambda reply: reply[:3]), 5,
-     f"only 110600 came in answer to frame 1 (block 1 of 3) in 0.5 s{WAITING}", 2, {}),
-    ("a truncated last reply", at(3, lambda reply: reply[:128]), 5,
-     f"only {last[:128].hex()} came in answer to frame 3 (block 3 of 3) in 0.5 s{WAITING}", 4, {}),
+    ("a good head", answering(), 0, MEANING, 4, whole),
+    *((f"ID {id}", answering(), 0, MEANING, 4, {**whole, "id": id}) for id in range(4)),
+    ("a slow reply", slow, 0, MEANING, 4, {**whole, "wait": "2"}),
+    ("modes that change bytes", answering(), 0, MEANING, 2,
+     {"program": MARKED, "out": loaded(MARKED), "modes": ["sane", "inlcr", "igncr", "parmrk", "ixoff"]}),
+    ("silence", silent, 5, unanswered(0), 1, {}),
+    ("silence at a block", at(2, lambda reply: b""), 5, unanswered(2), 3, {}),
+    ("a second of silence", silent, 5, unanswered(0, "1"), 1, {"wait": "1"}),
+    ("a truncated reply", at(1, lambda reply: reply[:3]), 5, unanswered(1, came="only 110600 came in answer"), 2, {}),
+    ("a truncated last reply", at(3, lambda reply: reply[:128]), 5, unanswered(3, came=f"only {last[:128].hex()} came in answer"), 4, {}),
+    ("dripping", dripping, 5, re.compile(re.escape(unanswered(0, came="only 13 came in answer")).replace("13", "(13){2,6}")), 1, {}),
     ("an echo", echo, 7, unexpected(0, "header", server.frame(PROGRAM, 0, None, 0).hex()), 1, {}),
     ("garbage", garbage, 7, unexpected(0, "header", "ff"), 1, {}),
     ("another ID", at(1, put(0, 0x31)), 7, unexpected(1, "header", "3106000000"), 2, {}),
@@ -184,45 +251,39 @@ LINES = [
     ("filler", at(1, put(4, 1)), 7, unexpected(1, "filler", "1106000001"), 2, {}),
     ("filler behind the digest", at(3, put(128, 9)), 7, unexpected(3, "filler", put(128, 9)(last).hex()), 4, {}),
     ("a byte too many", at(1, lambda reply: reply + b"\0"), 7, unexpected(2, "header", "0011"), 3, {}),
-    ("status 1 to the load", at(0, put(2, 1)), 8, "the program does not fit this head's RAM (status 1); load a smaller one", 1, {}),
-    ("status 1 to a block", at(2, put(2, 1)), 8, f"the head refused frame 2 (block 2 of 3) (status 1){AGAIN}", 3, {}),
+    ("status 1 to the load", at(0, put(2, 1)), 8, failed("the program does not fit this head's RAM (status 1); load a smaller one"), 1, {}),
+    ("status 1 to a block", at(2, put(2, 1)), 8, failed(f"the head refused {name_of(2)} (status 1){AGAIN}"), 3, {}),
     ("another digest", at(3, lambda reply: server.reply(300, 0, 3, 0, other)), 9,
-     f"the head measured another digest, {other.hex()}; it has not this program, and if it is of type 4 it has started another: "
-     "reset the head and load again", 4, {}),
-    ("pulled before a reply", pulled_at(0), 6, f"the line closed before the reply to frame 0 (the load){CLOSED}", 1, {}),
-    ("pulled within a reply", pulled_within, 6, f"the line closed before the reply to frame 0 (the load){CLOSED}", 1, {}),
-    ("pulled at a block", pulled_at(2), 6, f"the line closed before the reply to frame 2 (block 2 of 3){CLOSED}", 3, {}),
-    ("every ID", answering(), 0, MEANING, 4, {"out": loaded(PROGRAM), "id": 3}),
+     failed(f"the head measured another digest, {other.hex()}; it has not this program, and if it is of type 4 it has started another: "
+            "reset the head and load again"), 4, {}),
+    ("pulled before a reply", pulled_at(0), 6, closed(0), 1, {}),
+    ("pulled within a reply", pulled_within, 6, closed(0), 1, {}),
+    ("pulled at a block", pulled_at(2), 6, closed(2), 3, {}),
+    ("on a terminal", answering(), 0, on_terminal(3, MEANING), 4, {**whole, **screen}),
+    ("a second for a block", second, 0, on_terminal(3, MEANING, RATES), 4, {**whole, **screen, "wait": "2"}),
+    ("silence, on a terminal", silent, 5, unanswered(0), 1, screen),
+    ("silence at a block, on a terminal", at(2, lambda reply: b""), 5, on_terminal(1, unanswered(2)), 3, screen),
+    ("no standard output", answering(), 0, MEANING, 4, {"redirected": ">&-"}),
+    ("no standard error", answering(), 0, "", 4, {**whole, "redirected": "2>&-"}),
+    ("neither", answering(), 0, "", 4, {"redirected": ">&- 2>&-"}),
+    ("silence, and no standard error", silent, 5, "", 1, {"redirected": "2>&-"}),
+    ("a full disk", answering(), 1, "load: standard output: No space left on device\n", 4, {"redirected": "> /dev/full"}),
 ]
-
-
-def dripping(folder):
-    """A byte every now and then, without end, with a silence before each: the silences count, and the load is over after half a second."""
-
-    def peer(line):
-        line.read(129)
-        while not line.over.wait(0.15):
-            line.write(b"\x13")
-
-    path = written(folder, "dripped", PROGRAM)
-    done = play([LOAD, TTY, path, "--wait", "0.5"], peer, SECONDS)
-    words = f"load: /dev/pts/[0-9]+: only (13){{2,6}} came in answer to frame 0 \\(the load\\) in 0.5 s{re.escape(WAITING)}\n"
-    expect(f"exit status, standard output and {done.err!r}", (done.status, done.out, bool(re.fullmatch(words, done.err))), (5, "", True))
-    expect("over within 4 s", done.seconds < 4, True)
 
 
 def full(folder):
     """A line that takes no byte, since nobody reads it: a write does not wait for ever."""
     terminal = Terminal()
     slave = pty_peer.opened(terminal.name)
+    filled = 0
     try:
-        while os.write(slave.fd, bytes(4096)):
-            pass
+        while True:
+            filled += os.write(slave.fd, bytes(4096))
     except BlockingIOError:
         pass
     path = written(folder, "full", PROGRAM)
-    words = f"load: {terminal.name}: no answer to frame 0 (the load) in 0.3 s{WAITING}\n"
-    expect("a full line", run(terminal.name, path, "--wait", "0.3"), (5, "", words))
+    expect("a full line", run(terminal.name, path, "--wait", "0.3"), (5, "", unanswered(0, "0.3").replace("TTY", terminal.name)))
+    expect("sent", terminal.line.rest(), bytes(filled))
     terminal.close()
 
 
@@ -230,63 +291,46 @@ def stale(folder):
     """What came before the load is no reply."""
     terminal = Terminal()
     terminal.line.write(b"\x11\x04\x01\0\0")
-    terminal.line.pull = terminal.pull
-    path = written(folder, "stale", b"x")
-    process = subprocess.Popen([LOAD, terminal.name, path], stdout=subprocess.PIPE, stderr=subprocess.PIPE)
+    process = running(terminal.name, written(folder, "stale", b"x"))
     for k in range(2):
         expect(f"frame {k}", terminal.line.read(129), server.frame(b"x", 0, None, k))
         terminal.line.write(server.reply(1, 0, k, 0, blake2s(b"x")))
-    out, err = process.communicate(timeout=SECONDS)
+    expect("stale bytes", ran(process), (0, loaded(b"x"), MEANING))
+    expect("behind the last frame", terminal.line.rest(), b"")
     terminal.close()
-    expect("stale bytes", (process.returncode, out.decode(), err.decode()), (0, loaded(b"x"), MEANING))
 
 
-def progress(folder):
-    """On a terminal a line is rewritten; bytes a second stand there once a second has passed."""
-    screen = Terminal()
+def full_disk(folder):
+    """The head has the program."""
     head = Head()
-    path = written(folder, "shown", PROGRAM)
-    process = subprocess.Popen([LOAD, head.name, path], stdin=subprocess.DEVNULL, stdout=subprocess.PIPE, stderr=screen.slave)
-    bars = [(0, 0, 0), (10, 1, 33), (21, 2, 66), (32, 3, 100)]
-    lines = "".join(f"\r[{'#' * n}{'.' * (32 - n)}] {done} of 3 blocks, {percent}%\x1b[K" for n, done, percent in bars) + "\n" + MEANING
-    expect("status and standard output", (process.communicate(timeout=SECONDS)[0].decode(), process.returncode), (loaded(PROGRAM), 0))
-    expect("on a terminal", re.sub(", [0-9]+ bytes/s", "", screen.line.some().decode()), lines)
-    head.ends(0, shown(PROGRAM, started(PROGRAM)))
-    screen.close()
-
-
-def rate(folder):
-    """A head that takes a second for a block."""
-    screen = Terminal()
-    terminal = Terminal()
-    path = written(folder, "rated", bytes(254))
-    process = subprocess.Popen([LOAD, terminal.name, path], stdin=subprocess.DEVNULL, stdout=subprocess.DEVNULL, stderr=screen.slave)
-    for k in range(3):
-        terminal.line.read(129)
-        time.sleep(1.1 if k == 1 else 0)
-        terminal.line.write(server.reply(254, 0, k, 0, blake2s(bytes(254))))
-    process.wait(SECONDS)
-    text = screen.line.some().decode()
-    expect(f"a rate in {text!r}", bool(re.search("1 of 2 blocks, 50%, (127|63) bytes/s\x1b", text)), True)
-    terminal.close()
-    screen.close()
+    path = written(folder, "full disk", b"x")
+    words = ("-c", 'exec "$0" "$@" > /dev/full', LOAD, head.name, path)
+    expect("./load", run(*words, command="sh"), (1, "", "load: standard output: No space left on device\n"))
+    head.ends(0, shown(b"x", started(b"x")))
 
 
 # ---- nothing is sent
 
 
 def nothing_sent(status, err, words, prepare):
-    """./load with these words, LINE standing for a terminal, ends so, and the terminal's other end hears nothing."""
+    """./load with these words, LINE standing for a terminal, ends so. The terminal has its mode and what was typed there, and its other end
+    hears nothing."""
 
     def case(folder):
         folder = Path(tempfile.mkdtemp(dir=folder))
         prepare(folder)
-        terminal = Terminal()
+        terminal = Terminal("sane", "-echo")
+        terminal.line.write(b"typed\n")
+        mode = termios.tcgetattr(terminal.slave)
         given = [str(word).replace("LINE", terminal.name).replace("FOLDER", str(folder)) for word in words]
         wanted = err.replace("FOLDER", str(folder))
         got = run(*given)
         expect("exit status, standard output and error", (got[0], got[1], got[2].count("\n"), got[2]), (status, "", 1, wanted))
-        expect("sent", terminal.line.some(0), b"")
+        expect("sent", terminal.line.rest(), b"")
+        expect("the line's mode", termios.tcgetattr(terminal.slave), mode)
+        slave = pty_peer.opened(terminal.name)
+        expect("typed there", slave.rest(), b"typed\n")
+        slave.close()
         terminal.close()
 
     return case
@@ -318,6 +362,7 @@ def nothing(folder):
 
 
 MISSING = "cannot be read: No such file or directory"
+TOO_LONG = f"load: {'x' * 4096}: cannot be read: File name too long\n"
 SECONDS_WORDS = "a number of seconds from 0.1 to 3600"
 REFUSED = [
     program(3, "FOLDER/no", MISSING),
@@ -330,6 +375,8 @@ REFUSED = [
     secret("FOLDER/it", "a user secret has exactly 32 bytes", 0),
     secret("FOLDER/no", MISSING),
     secret("FOLDER", "cannot be read: Is a directory"),
+    (3, TOO_LONG, ["LINE", "x" * 5000], nothing),
+    (3, TOO_LONG, ["LINE", "FOLDER/program", "--secret", "x" * 5000], file_of("x", 1)),
     device("FOLDER/no", "No such file or directory"),
     device("FOLDER/x", "is not a serial line"),
     device("/dev/null", "is not a serial line"),
@@ -356,16 +403,10 @@ def unreadable(folder):
     if os.getuid() != 0:
         expect("no permission", run(terminal.name, path), wanted)
         return
-    top = folder / "nobody's"
-    top.mkdir()
-    shutil.copy(LOAD, top)
-    shutil.copytree(TOP / "scripts", top / "scripts")
-    shutil.copy(TOP / "target" / "bin" / "load", top / "binary")
-    (top / "scripts" / "built").write_text(f'#!/bin/sh\necho "{top}/binary"\n')
+    copy = built.Copy(folder / "nobody's", TOP / "target" / "bin" / "load")
+    copy.ended("scripts/built", "load")
     folder.chmod(0o755)
-    words = ["setpriv", "--reuid", "65534", "--regid", "65534", "--clear-groups", top / "load", terminal.name, path]
-    done = subprocess.run(words, stdin=subprocess.DEVNULL, capture_output=True, timeout=SECONDS)
-    expect("no permission", (done.returncode, done.stdout.decode(), done.stderr.decode()), wanted)
+    expect("no permission", ran(copy.started("load", terminal.name, path, behind=built.NOBODY)), wanted)
     terminal.close()
 
 
@@ -373,13 +414,16 @@ def in_use(folder):
     """Two loads on one line would garble each other: the second is refused, and the first goes on."""
     terminal = Terminal()
     path = written(folder, "used", b"x")
-    first = subprocess.Popen([LOAD, terminal.name, path], stdout=subprocess.PIPE, stderr=subprocess.PIPE)
+    first = running(terminal.name, path)
     expect("frame 0", terminal.line.read(129), server.frame(b"x", 0, None, 0))
     expect("the second", run(terminal.name, path), (4, "", f"load: {terminal.name}: another ./load uses it\n"))
+    expect("sent by it", terminal.line.rest(), b"")
     for k in range(2):
         terminal.line.write(server.reply(1, 0, k, 0, blake2s(b"x")))
-        expect("the next frame", terminal.line.read(129 - 129 * k, 1), server.frame(b"x", 0, None, 1) if k == 0 else b"")
-    expect("the first", (first.communicate(timeout=SECONDS)[0].decode(), first.returncode), (loaded(b"x"), 0))
+        if k == 0:
+            expect("frame 1", terminal.line.read(129), server.frame(b"x", 0, None, 1))
+    expect("the first", ran(first), (0, loaded(b"x"), MEANING))
+    expect("behind the last frame", terminal.line.rest(), b"")
     terminal.close()
 
 
@@ -392,7 +436,7 @@ def speed(folder):
     mode = struct.unpack("4I20s2I", fcntl.ioctl(terminal.slave, 0x802C542A, bytes(44)))
     expect("speeds", mode[5:], (62500, 62500))
     t = termios
-    off = (t.ICRNL | t.IXON | t.ISTRIP, t.OPOST, t.CRTSCTS | t.PARENB | t.CSTOPB, t.ECHO | t.ICANON | t.ISIG)
+    off = (~0, t.OPOST, t.CRTSCTS | t.PARENB | t.CSTOPB, t.ECHO | t.ICANON | t.ISIG)
     expect("flags that are off", [flags & bits for flags, bits in zip(mode, off)], [0, 0, 0, 0])
     expect("eight bits, and no carrier needed", mode[2] & (t.CSIZE | t.CLOCAL | t.CREAD), t.CS8 | t.CLOCAL | t.CREAD)
     expect("least bytes and tenths", (mode[4][1 + termios.VMIN], mode[4][1 + termios.VTIME]), (0, 1))
@@ -418,20 +462,71 @@ def readme(folder):
 def usage(folder):
     status, out, err = run("--help")
     expect("--help", (status, out[:14], err), (0, "usage: ./load ", ""))
-    for number in range(10):
-        expect(f"status {number} in --help", bool(re.search(rf"^ +(exit status )?{number}  \S", out, re.M)), True)
+    lines = re.findall(r"^ +(?:exit status )?([0-9]+)  (\S.*)$", out, re.M)
+    expect("statuses in --help", [(int(number), words) for number, words in lines], list(STATUSES.items()))
+
+
+def not_built(folder):
+    terminal = Terminal()
+    simulate.not_built("load", terminal.name, written(folder, "not built", b"x"))(folder)
+    expect("sent", terminal.line.rest(), b"")
+    terminal.close()
+
+
+def elsewhere(folder):
+    path = written(folder, "elsewhere", b"x")
+    for name, place in built.elsewhere(folder, TOP, "load"):
+        head = Head()
+        expect(name, run(head.name, path, command=name, **place), (0, loaded(b"x"), MEANING))
+        head.ends(0, shown(b"x", started(b"x")))
+
+
+# ---- the program behind ./load
+
+
+class Waiting:
+    """A load that waits for its first reply."""
+
+    def __init__(self, folder, **more):
+        self.terminal = Terminal()
+        self.path = written(Path(tempfile.mkdtemp(dir=folder)), "program", b"x")
+        self.process = running(self.terminal.name, self.path, **more)
+        expect("frame 0", self.terminal.line.read(129), server.frame(b"x", 0, None, 0))
+        self.program = child(self.process)
 
 
 def dies(folder):
     """The program is killed in the middle."""
-    terminal = Terminal()
-    process = subprocess.Popen([LOAD, terminal.name, written(folder, "dies", b"x")], stdout=subprocess.PIPE, stderr=subprocess.PIPE)
-    terminal.line.read(129)
-    children = Path(f"/proc/{process.pid}/task/{process.pid}/children")
-    os.kill(int(children.read_text().split()[0]), signal.SIGKILL)
-    out, err = process.communicate(timeout=SECONDS)
-    terminal.close()
-    expect("killed", (process.returncode, out, err), (1, b"", b"load: the program died\n"))
+    load = Waiting(folder)
+    os.kill(load.program, signal.SIGKILL)
+    expect("killed", ran(load.process), (1, "", "load: the program died\n"))
+    load.terminal.close()
+
+
+def closes_unseen(folder):
+    """The line closes while the program does not read it."""
+    load = Waiting(folder)
+    os.kill(load.program, signal.SIGSTOP)
+    load.terminal.close()
+    os.kill(load.program, signal.SIGCONT)
+    expect("closed", ran(load.process), (6, "", closed(0).replace("TTY", load.terminal.name)))
+
+
+def waits(folder):
+    """Ten seconds, a hundred ticks, if nothing else is said; until then it is ended by a signal."""
+    load = Waiting(folder)
+    words = Path(f"/proc/{load.program}/cmdline").read_text().split("\0")[1:]
+    expect("its words", words, [load.terminal.name, str(load.path), "0", "100", ""])
+    ended_by(signal.SIGTERM, load.process)
+    load.terminal.close()
+
+
+def interrupted(folder):
+    """From a keyboard the signal comes to the program too."""
+    for send, more in ((os.kill, {}), (os.killpg, {"start_new_session": True})):
+        load = Waiting(folder, **more)
+        ended_by(signal.SIGINT, load.process, send)
+        load.terminal.close()
 
 
 def cases():
@@ -441,8 +536,10 @@ def cases():
     for what, peer, status, err, frames, more in LINES:
         yield what, meets(peer, status, err, frames, **more)
     for status, err, words, prepare in REFUSED:
-        yield f"refused {err!r}", nothing_sent(status, err, words, prepare)
-    for case in (other_required, no_room, dripping, full, stale, progress, rate, unreadable, in_use, speed, readme, usage, dies):
+        yield f"refused {err[:99]!r}", nothing_sent(status, err, words, prepare)
+    for case in (other_required, no_room, full, stale, full_disk, unreadable, in_use, speed, readme, usage, not_built, elsewhere):
+        yield case.__name__, case
+    for case in (dies, closes_unseen, waits, interrupted):
         yield case.__name__, case
 
 
