@@ -56,7 +56,7 @@ def run(program, words, places):
 def hold_streams():
     """A standard stream that is closed is as /dev/null: otherwise what is opened next, as a line to a head, would get its number."""
     while (fd := os.open(os.devnull, os.O_RDWR)) < 3:
-        pass
+        os.set_inheritable(fd, True)
     os.close(fd)
     sys.stdout = sys.stdout or open(1, "w")
     sys.stderr = sys.stderr or open(2, "w")
