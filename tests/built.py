@@ -94,8 +94,7 @@ class Copy:
 
 
 def elsewhere(folder, top, name):
-    """A command's names that are not its place, each with the folder where it is called so and CDPATH is set: a symbolic link, and a relative
-    path."""
+    """A command's names elsewhere, each with the folder where it is called so and CDPATH is set: a symbolic link, and a relative path."""
     link = folder / "links" / name
     link.parent.mkdir(exist_ok=True)
     link.symlink_to(top / name)

@@ -9,6 +9,7 @@ import itertools
 import os
 import random
 import re
+import select
 import signal
 import struct
 import subprocess
@@ -113,8 +114,8 @@ MARKED = next(program for program in (n.to_bytes(3, "big") for n in itertools.co
 
 
 def meets(peer, status, err, frames, program=PROGRAM, wait="0.5", id=0, out="", most=4.0, modes=(), redirected="", on_screen=False):
-    """./load meets this head, on a line that has these modes before: it ends so, having sent the load and the blocks up to so many frames and
-    not a byte more. Standard error is these words, or like this pattern."""
+    """./load meets this head, on a line that has these modes before: it ends so, having sent the load and the blocks up to so many frames
+    and not a byte more. Standard error is these words, or like this pattern."""
 
     def case(folder):
         path = written(Path(tempfile.mkdtemp(dir=folder)), "program", program)
@@ -272,18 +273,32 @@ LINES = [
 
 
 def full(folder):
-    """A line that takes no byte, since nobody reads it: a write does not wait for ever."""
+    """A head that answers and reads nothing: a write to a line that takes no byte does not wait for ever."""
+    program = PROGRAM * 127  # 300 blocks, of which the line takes fewer than 200
+
+    def peer(line):
+        select.select([line.fd], [], [], SECONDS)
+        line.write(b"".join(server.reply(len(program), 0, k, 0, b"") for k in range(200)))
+
+    done = play([LOAD, TTY, written(folder, "full", program), "--wait", "0.3"], peer, seconds=SECONDS)
+    words = f": no answer to frame 200 (block 200 of 300) in 0.3 s{WAITING}\n"
+    expect("a full line", (done.status, done.out, done.err[-len(words) :]), (5, "", words))
+    frames = b"".join(server.frame(program, 0, None, k) for k in range(201))
+    expect("sent", (done.sent[:4096], len(done.sent) < len(frames)), (frames[:4096], True))
+
+
+def full_before(folder):
+    """What waits to be sent from before is dropped, and takes no room."""
     terminal = Terminal()
     slave = pty_peer.opened(terminal.name)
-    filled = 0
     try:
-        while True:
-            filled += os.write(slave.fd, bytes(4096))
+        while os.write(slave.fd, bytes(4096)):
+            pass
     except BlockingIOError:
         pass
-    path = written(folder, "full", PROGRAM)
-    expect("a full line", run(terminal.name, path, "--wait", "0.3"), (5, "", unanswered(0, "0.3").replace("TTY", terminal.name)))
-    expect("sent", terminal.line.rest(), bytes(filled))
+    expect("a full line", run(terminal.name, written(folder, "full before", b"x"), "--wait", "0.3")[0], 5)
+    expect("sent", terminal.line.rest().lstrip(b"\0"), server.frame(b"x", 0, None, 0))
+    slave.close()
     terminal.close()
 
 
@@ -354,7 +369,8 @@ def device(name, why):
 
 
 def argument(option, value, why):
-    return 2, f"load: argument {option}: {value!r} is not {why}; see ./load --help\n", ["LINE", "FOLDER/program", option, value], file_of("x", 1)
+    words = f"load: argument {option}: {value!r} is not {why}; see ./load --help\n"
+    return 2, words, ["LINE", "FOLDER/program", option, value], file_of("x", 1)
 
 
 def nothing(folder):
@@ -537,9 +553,9 @@ def cases():
         yield what, meets(peer, status, err, frames, **more)
     for status, err, words, prepare in REFUSED:
         yield f"refused {err[:99]!r}", nothing_sent(status, err, words, prepare)
-    for case in (other_required, no_room, full, stale, full_disk, unreadable, in_use, speed, readme, usage, not_built, elsewhere):
+    for case in (other_required, no_room, full, full_before, stale, full_disk, unreadable, in_use, speed, readme, usage):
         yield case.__name__, case
-    for case in (dies, closes_unseen, waits, interrupted):
+    for case in (not_built, elsewhere, dies, closes_unseen, waits, interrupted):
         yield case.__name__, case
 
 

@@ -131,8 +131,8 @@ class Done:
 
 
 def play(command, peer, modes=(), screen=None, seconds=SECONDS):
-    """Runs a command, with the terminal's name for TTY, while the peer is at the other end; one that is not over in time is killed. Standard
-    error is a pipe, or goes to a screen, which is a Terminal."""
+    """Runs a command, with the terminal's name for TTY, while the peer is at the other end; one that is not over in time is killed.
+    Standard error is a pipe, or goes to a screen, which is a Terminal."""
     terminal = Terminal(*modes)
     terminal.line.pull = terminal.pull
     words = [terminal.name if word == TTY else word for word in command]
