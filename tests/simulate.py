@@ -271,7 +271,11 @@ def ended_by(number, process, send=os.kill):
     """A signal ends a command with the status that a shell gives it, and without a word; the program behind it is dead then."""
     program = child(process)
     send(process.pid, number)
-    got = (*process.communicate(timeout=SECONDS), process.returncode, Path(f"/proc/{program}").exists())
+    process.wait(SECONDS)
+    lives = Path(f"/proc/{program}").exists()
+    if lives:
+        os.kill(program, signal.SIGKILL)
+    got = (*process.communicate(timeout=SECONDS), process.returncode, lives)
     expect("output, error, status, and whether the program lives", got, (b"", b"", 128 + number, False))
 
 
