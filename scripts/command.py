@@ -41,10 +41,14 @@ def run(program, words, places):
     out, number = os.pipe()
     high = {place: fcntl.fcntl(fd, fcntl.F_DUPFD_CLOEXEC, 10) for place, fd in {**places, 3: number}.items()}
     actions = [(os.POSIX_SPAWN_DUP2, fd, place) for place, fd in high.items()]
-    child = os.posix_spawn(program, [program, *words], os.environ, file_actions=actions)
-    for fd in [number, *high.values()]:
-        os.close(fd)
+    # A signal between the start and the try would leave the program behind.
+    ending = {signal.SIGINT, signal.SIGTERM}
+    signal.pthread_sigmask(signal.SIG_BLOCK, ending)
+    child = os.posix_spawn(program, [program, *words], os.environ, file_actions=actions, setsigmask=[])
     try:
+        signal.pthread_sigmask(signal.SIG_UNBLOCK, ending)
+        for fd in [number, *high.values()]:
+            os.close(fd)
         with os.fdopen(out) as file:
             digits = file.read()
     finally:
