@@ -91,7 +91,7 @@ def by_program(path):
     actions = [(os.POSIX_SPAWN_DUP2, out, fd) for fd in (1, 2, 3)] + [(os.POSIX_SPAWN_DUP2, high, fd) for fd in (4, 5)]
     program = str(TOP / "target" / "bin" / "load")
     began = time.perf_counter()
-    child = os.posix_spawn(program, [program, device, path, "0", "100"], os.environ, file_actions=actions)
+    child = os.posix_spawn(program, [program, device, path, "0", "100", "1"], os.environ, file_actions=actions)
     os.waitpid(child, 0)
     seconds = time.perf_counter() - began
     ended(process)
