@@ -1,7 +1,7 @@
 -- What a state in range has.
 use Prim.Native.Nat.{ℕ, zero, suc, _+_, _*_, _/_, _%_, _<_, _≤_}
-use mathlib.Core.Bool.{Bool, true, false, cond, and-eq-true-iff}
-use mathlib.Core.Path.{_≡_, refl}
+use mathlib.Core.Bool.{Bool, true, false, cond, _||_, or-false, and-eq-true-iff}
+use mathlib.Core.Path.{_≡_, refl, sym, _∙_}
 use native.Mathlib.Omega.{arith}
 use lib.Dec.{eqb, leb}
 use borrow.Author.Tests.{eqb-true, ltb-true, leb-true}
@@ -9,11 +9,10 @@ use Rattle.endian.proofs.Cases.{impossible}
 use Rattle.framing.specs.Header.{Reading, good, headerAt, lengthOf, bodyLen}
 use Rattle.framing.proofs.Headers.{by-bits, body-small}
 use Rattle.protocol.specs.Commands.{lengthOk, blocksFor, placeOf, countIn}
-use Rattle.head.specs.State.{incomingOk, loadingOk, progressIn, progressOk, inRange}
-use Rattle.head.specs.Machine.{actionIn, actionWaiting}
+use Rattle.head.specs.State.{isWhole, incomingOk, loadingOk, progressIn, progressOk, inRange}
+use Rattle.head.specs.Machine.{asksName, asksUdi, givesLoad, givesBlock, halts, requestIn, requestWaiting}
 use Rattle.head.specs.declared.Phase.{Phase}
 use Rattle.head.specs.declared.Phase.the-variants.{Waiting, Loading, Started, Stopped}
-use Rattle.head.specs.declared.Action.the-variants as action
 use Rattle.head.specs.declared.Incoming.{Incoming}
 use Rattle.head.specs.declared.Progress.{Progress}
 use Rattle.head.specs.declared.State.{State}
@@ -41,17 +40,19 @@ length-some h id ep n =
     (λ p q e. let l : lengthOf (h / 1 % 4) ≡ n = cc in let o = some-length (h / 1 % 4) (omega arith) in omega arith)
     (λ g e. impossible cc)
 
--- how many bytes of a frame have come, where one is being gathered
-pub incoming-got : (i : Incoming) → incomingOk i ≡ true → (i .got ≡ 0 → ⊥) → (1 ≤ i .got) × (i .got ≤ 128)
-incoming-got i e n =
+-- how many bytes of a frame have come, where one is being gathered and is not whole
+pub incoming-got : (i : Incoming) → incomingOk i ≡ true → isWhole i ≡ false → (i .got ≡ 0 → ⊥)
+    → (1 ≤ i .got) × (i .got ≤ bodyLen (headerAt (i .header))) × (i .got ≤ 128)
+incoming-got i e w n =
     let s = body-small (i .header) in
-    let l : i .got ≤ bodyLen (headerAt (i .header)) = go (eqb (i .got) 0) refl e in
-    (omega (arith, n), omega arith)
+    let l : i .got ≤ bodyLen (headerAt (i .header)) = go (eqb (i .got) 0) (isWhole i) refl w e in
+    (omega (arith, n), l, omega arith)
   where
-    go : (t : Bool) → eqb (i .got) 0 ≡ t → cond t (eqb (i .header) 0) (leb (i .got) (bodyLen (headerAt (i .header)))) ≡ true
+    go : (t u : Bool) → eqb (i .got) 0 ≡ t → u ≡ false → cond t (eqb (i .header) 0) (leb (i .got) (bodyLen (headerAt (i .header))) || u) ≡ true
         → i .got ≤ bodyLen (headerAt (i .header))
-    go true p q = absurd (n (eqb-true (i .got) 0 p))
-    go false p q = leb-true (i .got) (bodyLen (headerAt (i .header))) q
+    go true u p o q = absurd (n (eqb-true (i .got) 0 p))
+    go false true p o q = never o
+    go false false p o q = leb-true (i .got) (bodyLen (headerAt (i .header))) (sym (or-false (leb (i .got) (bodyLen (headerAt (i .header))))) ∙ q)
 
 -- the numbers of a load
 pub record Loaded (p : Progress) (m : ℕ) : Type 0 where
@@ -78,11 +79,11 @@ block-within p m l =
     omega arith
 
 -- only while loading is a block asked for
-pub no-block : (c n : ℕ) → actionWaiting c n ≡ action.TakeBlock → ⊥
+pub no-block : (c n : ℕ) → requestWaiting c n ≡ givesBlock → ⊥
 no-block c n = go (eqb c 0x01) (eqb c 0x08) (eqb c 0x03) (eqb n 1) (eqb n 128)
   where
     go : (x y z t u : Bool)
-        → cond x (cond t action.AnswerName action.StopLength) (cond y (cond t action.AnswerUdi action.StopLength) (cond z (cond u action.TakeLoad action.StopLength) action.StopCommand)) ≡ action.TakeBlock
+        → cond x (cond t asksName (halts 24)) (cond y (cond t asksUdi (halts 24)) (cond z (cond u givesLoad (halts 24)) (halts 23))) ≡ givesBlock
         → ⊥
     go true y z true u e = impossible cc
     go true y z false u e = impossible cc
@@ -92,7 +93,7 @@ no-block c n = go (eqb c 0x01) (eqb c 0x08) (eqb c 0x03) (eqb n 1) (eqb n 128)
     go false false true t false e = impossible cc
     go false false false t u e = impossible cc
 
-pub block-loading : (ph : Phase) (c n : ℕ) (p : Progress) (m : ℕ) → actionIn ph c n ≡ action.TakeBlock → progressIn ph p m ≡ true → loadingOk p m ≡ true
+pub block-loading : (ph : Phase) (c n : ℕ) (p : Progress) (m : ℕ) → requestIn ph c n ≡ givesBlock → progressIn ph p m ≡ true → loadingOk p m ≡ true
 block-loading Loading c n p m e r = r
 block-loading Waiting c n p m e r = absurd (no-block c n e)
 block-loading Started c n p m e r = impossible cc

@@ -1,17 +1,18 @@
--- What a call reports: document 01, "Numbers of refused calls and of stops".
+-- What a call reports: document 01, "Numbers of refused calls and of stops", and 47 of change request 8.
 use Prim.Native.Nat.{ℕ}
 use mathlib.Core.List.{List}
 use Rattle.head.specs.declared.Refusal.{Refusal}
-use Rattle.head.specs.declared.Refusal.the-variants.{StateRange, Ended, ReplyRoom, RamLength, SecretLength, RecordLength, RamSize}
+use Rattle.head.specs.declared.Refusal.the-variants.{StateRange, Ended, ReplyRoom, RamLength, SecretLength, RecordLength, RamSize, OutOfTurn}
 use Rattle.head.specs.declared.Stop.{Stop}
 use Rattle.head.specs.declared.Stop.the-variants.{UnknownType, NoFlash, HeaderBit, Command, BodyLength, Digest}
 use Rattle.head.specs.declared.Answer.{Answer}
-use Rattle.head.specs.declared.Answer.the-variants.{Refused, Continue, Stopped, Started}
+use Rattle.head.specs.declared.Answer.the-variants.{Refused, Continue, Whole, Stopped, Started}
 use Rattle.head.specs.declared.Admission.{Admission}
 use Rattle.head.specs.declared.Admission.the-variants as admission
 use Rattle.head.specs.declared.Admission.the-variants.{Admitted}
 use Rattle.head.specs.declared.State.{State}
-use Rattle.head.specs.declared.Received.{Received}
+use Rattle.head.specs.declared.Gathered.{Gathered}
+use Rattle.head.specs.declared.Acted.{Acted}
 
 -- the number of each refusal and of each stop
 abbrev pub refusalNumber : Refusal → ℕ
@@ -22,6 +23,7 @@ refusalNumber RamLength = 4
 refusalNumber SecretLength = 5
 refusalNumber RecordLength = 6
 refusalNumber RamSize = 7
+refusalNumber OutOfTurn = 47
 
 abbrev pub stopNumber : Stop → ℕ
 stopNumber UnknownType = 20
@@ -39,8 +41,10 @@ admissionNumber (admission.Refused r) = refusalNumber r
 pub data Report : Type 0 where
   -- the number of the refusal
   refused : ℕ → Report
-  -- the record or the byte is taken, and the session goes on
+  -- the record or the byte is taken, or the frame was acted on, and the session goes on
   continues : Report
+  -- the byte is taken, and with it a frame for the firmware is whole
+  whole : Report
   -- the number of the stop
   stopped : ℕ → Report
   -- the program's address and size
@@ -49,11 +53,20 @@ pub data Report : Type 0 where
 abbrev pub reportOf : Answer → Report
 reportOf (Refused r) = refused (refusalNumber r)
 reportOf Continue = continues
+reportOf Whole = whole
 reportOf (Stopped s) = stopped (stopNumber s)
 reportOf (Started address size) = started address size
 
--- all that receiving a byte settles: the report, how many bytes of the room are a reply, the next state, CDI and digest, and what the lent memory then
--- holds
+-- all that gathering a byte settles: the report and the next state
+pub record Gathering : Type 0 where
+  pub report : Report
+  pub state : State
+
+abbrev pub gatheringOf : Gathered → Gathering
+gatheringOf g = record { report = reportOf (g .answer); state = g .state }
+
+-- all that acting on a frame settles: the report, how many bytes of the room are a reply, the next state, CDI and digest, and what the lent
+-- memory then holds
 pub record Outcome : Type 0 where
   pub report : Report
   pub reply : ℕ
@@ -64,7 +77,7 @@ pub record Outcome : Type 0 where
   pub ram : List ℕ
   pub uds : List ℕ
 
-abbrev pub outcome : Received → List ℕ → List ℕ → List ℕ → Outcome
+abbrev pub outcome : Acted → List ℕ → List ℕ → List ℕ → Outcome
 outcome r room ram uds =
     record {
       report = reportOf (r .answer);

@@ -16,7 +16,7 @@ use Rattle.head.specs.declared.Progress.{Progress}
 use Rattle.head.specs.declared.State.{State}
 use Rattle.head.specs.declared.Begun.{Begun}
 
--- all that begin settles: the report and the state that the first byte is received in
+-- all that begin settles: the report and the state that the first call gets
 pub record Beginning : Type 0 where
   pub report : Report
   pub state : State

@@ -1,6 +1,7 @@
--- What a byte does: document 01, "Header byte", "Commands and replies" and the table of refused calls.
+-- What the two calls of a session do, `gather` and `act` (change request 8; document 01 has one for both, hearing): document 01, "Header byte",
+-- "Commands and replies" and the table of refused calls.
 use Prim.Native.Nat.{ℕ, _+_, _-_}
-use mathlib.Core.Bool.{Bool, true, not, cond}
+use mathlib.Core.Bool.{Bool, true, not, cond, _&&_}
 use mathlib.Core.List.{List, [], _∷_}
 use lib.Dec.{eqb, ltb}
 use lib.ListN.{length, take, set}
@@ -14,74 +15,104 @@ use Rattle.protocol.specs.Replies.{sent, putIn, nameReply, udiReply, loadReply,
 use Rattle.protocol.specs.declared.Load.{Load}
 use Rattle.protocol.specs.declared.Reply.{Reply}
 use Rattle.endian.specs.Lists.{zeros, same}
-use Rattle.head.specs.State.{inRange, live, idle, ended}
-use Rattle.head.specs.Answers.{Report, refused, continues, stopped, started, Outcome}
+use Rattle.head.specs.State.{isWhole, inRange, live, idle, ended}
+use Rattle.head.specs.Answers.{Report, refused, continues, whole, stopped, started, Gathering, Outcome}
 use Rattle.head.specs.declared.Phase.{Phase}
 use Rattle.head.specs.declared.Phase.the-variants as phase
 use Rattle.head.specs.declared.Incoming.{Incoming}
 use Rattle.head.specs.declared.Config.{Config}
 use Rattle.head.specs.declared.Progress.{Progress}
 use Rattle.head.specs.declared.State.{State}
-use Rattle.head.specs.declared.Step.{Step}
-use Rattle.head.specs.declared.Step.the-variants.{More, Whole, Bad}
-use Rattle.head.specs.declared.Gathered.{Gathered}
-use Rattle.head.specs.declared.Action.{Action}
-use Rattle.head.specs.declared.Action.the-variants as action
 
--- ---- gathering: "Header byte"
+-- ---- a byte: "Header byte"
 
--- a header: a set bit 7 or bit 2 stops the head, for every endpoint
-abbrev pub opened : Reading → Incoming → ℕ → Gathered
-opened (good id ep n) i b = record { step = More; incoming = record { header = b; got = 1; body = i .body } }
-opened (stop k) i b = record { step = Bad; incoming = i }
+-- what a byte leads to
+pub data Step : Type 0 where
+  -- it is taken: the frame so far
+  taken : Incoming → Step
+  -- a header with bit 7 or bit 2 set
+  bad : Step
+
+-- a header, for every endpoint
+abbrev pub opened : Reading → Incoming → ℕ → Step
+opened (good id ep n) i b = taken (record { header = b; got = 1; body = i .body })
+opened (stop k) i b = bad
 
 -- with a byte of its body: only that of a frame for the firmware is kept
 abbrev pub withByte : Incoming → ℕ → ℕ → Incoming
 withByte i ep b = record { header = i .header; got = i .got + 1; body = cond (eqb ep firmware) (set (i .body) (i .got - 1) b) (i .body) }
 
--- a frame is whole with the last byte of its body; one for another endpoint is passed over
-abbrev pub inBody : Incoming → ℕ → ℕ → ℕ → Gathered
-inBody i ep n b =
-    cond (ltb (i .got) n) (record { step = More; incoming = withByte i ep b })
-    (cond (eqb ep firmware) (record { step = Whole; incoming = withByte i ep b })
-    (record { step = More; incoming = idle }))
+-- a frame for another endpoint is passed over: after the last byte of its body nothing is left of it
+abbrev pub inBody : Incoming → ℕ → ℕ → ℕ → Incoming
+inBody i ep n b = cond (not (eqb ep firmware) && eqb (i .got) n) idle (withByte i ep b)
 
 -- no state in range has a bad header here
-abbrev pub continued : Reading → Incoming → ℕ → Gathered
-continued (good id ep n) i b = inBody i ep n b
-continued (stop k) i b = record { step = Bad; incoming = i }
+abbrev pub continued : Reading → Incoming → ℕ → Step
+continued (good id ep n) i b = taken (inBody i ep n b)
+continued (stop k) i b = bad
 
-unfoldable pub gathered : Incoming → ℕ → Gathered
-gathered i b = cond (eqb (i .got) 0) (opened (headerAt b) i b) (continued (headerAt (i .header)) i b)
+unfoldable pub byteStep : Incoming → ℕ → Step
+byteStep i b = cond (eqb (i .got) 0) (opened (headerAt b) i b) (continued (headerAt (i .header)) i b)
+
+-- ---- a call of `gather`
+
+-- the lowest refusal that applies, 0 for none; 47 is gathering while a frame is whole
+unfoldable pub gatherRefusal : State → ℕ
+gatherRefusal s =
+    cond (not (inRange s)) 1
+    (cond (not (live (s .progress .phase))) 2
+    (cond (isWhole (s .incoming)) 47 0))
+
+abbrev pub withIncoming : State → Incoming → State
+withIncoming s i = record { incoming = i; config = s .config; progress = s .progress }
+
+-- a bad header stops the head with 22
+abbrev pub afterStep : Step → State → Gathering
+afterStep (taken i) s = record { report = cond (isWhole i) whole continues; state = withIncoming s i }
+afterStep bad s = record { report = stopped 22; state = ended phase.Stopped (s .config .«ram_len») }
+
+-- a refused call changes nothing
+unfoldable pub gathered : State → ℕ → Gathering
+gathered s b =
+    let k = gatherRefusal s in
+    cond (eqb k 0) (afterStep (byteStep (s .incoming) b) s) (record { report = refused k; state = s })
 
 -- ---- what a whole frame asks for: the table of commands
 
+pub data Request : Type 0 where
+  asksName : Request
+  asksUdi : Request
+  givesLoad : Request
+  givesBlock : Request
+  -- nothing that is allowed: the number of the stop
+  halts : ℕ → Request
+
 -- stop 24 is a wrong body length
-abbrev pub sized : ℕ → ℕ → Action → Action
-sized wanted n d = cond (eqb n wanted) d action.StopLength
+abbrev pub sized : ℕ → ℕ → Request → Request
+sized wanted n r = cond (eqb n wanted) r (halts 24)
 
 -- by the command byte and the body's length; stop 23 is a command that is not allowed, unknown ones included
-abbrev pub actionWaiting : ℕ → ℕ → Action
-actionWaiting c n =
-    cond (eqb c 0x01) (sized 1 n action.AnswerName)
-    (cond (eqb c 0x08) (sized 1 n action.AnswerUdi)
-    (cond (eqb c 0x03) (sized 128 n action.TakeLoad) action.StopCommand))
+abbrev pub requestWaiting : ℕ → ℕ → Request
+requestWaiting c n =
+    cond (eqb c 0x01) (sized 1 n asksName)
+    (cond (eqb c 0x08) (sized 1 n asksUdi)
+    (cond (eqb c 0x03) (sized 128 n givesLoad) (halts 23)))
 
-abbrev pub actionLoading : ℕ → ℕ → Action
-actionLoading c n = cond (eqb c 0x05) (sized 128 n action.TakeBlock) action.StopCommand
+abbrev pub requestLoading : ℕ → ℕ → Request
+requestLoading c n = cond (eqb c 0x05) (sized 128 n givesBlock) (halts 23)
 
-abbrev pub actionIn : Phase → ℕ → ℕ → Action
-actionIn phase.Waiting c n = actionWaiting c n
-actionIn phase.Loading c n = actionLoading c n
-actionIn phase.Started c n = action.StopCommand
-actionIn phase.Stopped c n = action.StopCommand
+abbrev pub requestIn : Phase → ℕ → ℕ → Request
+requestIn phase.Waiting c n = requestWaiting c n
+requestIn phase.Loading c n = requestLoading c n
+requestIn phase.Started c n = halts 23
+requestIn phase.Stopped c n = halts 23
 
 -- the bytes of the frame that was gathered
 abbrev pub frameIn : State → List ℕ
 frameIn s = s .incoming .header ∷ s .incoming .body
 
-abbrev pub actionOf : State → Action
-actionOf s = actionIn (s .progress .phase) (commandIn (frameIn s)) (bodyLen (headerAt (s .incoming .header)))
+abbrev pub requestOf : State → Request
+requestOf s = requestIn (s .progress .phase) (commandIn (frameIn s)) (bodyLen (headerAt (s .incoming .header)))
 
 -- ---- what is then done: "Commands and replies"
 
@@ -170,49 +201,30 @@ actedBlock s room ram uds =
     (finished s room ram1 uds)
     (replying (blockReply (s .incoming .header)) (between s (nextBlock (s .progress))) room ram1 uds)
 
-abbrev pub performed : Action → State → List ℕ → List ℕ → List ℕ → Outcome
-performed action.AnswerName s room ram uds = replying (nameReply (s .incoming .header)) (between s (s .progress)) room ram uds
-performed action.AnswerUdi s room ram uds = replying (udiReply (s .incoming .header) (s .config .udi)) (between s (s .progress)) room ram uds
-performed action.TakeLoad s room ram uds = replying (loadAnswer s) (between s (afterLoad s)) room ram uds
-performed action.TakeBlock s room ram uds = actedBlock s room ram uds
-performed action.StopCommand s room ram uds = stopping 23 s room ram uds
-performed action.StopLength s room ram uds = stopping 24 s room ram uds
+abbrev pub performed : Request → State → List ℕ → List ℕ → List ℕ → Outcome
+performed asksName s room ram uds = replying (nameReply (s .incoming .header)) (between s (s .progress)) room ram uds
+performed asksUdi s room ram uds = replying (udiReply (s .incoming .header) (s .config .udi)) (between s (s .progress)) room ram uds
+performed givesLoad s room ram uds = replying (loadAnswer s) (between s (afterLoad s)) room ram uds
+performed givesBlock s room ram uds = actedBlock s room ram uds
+performed (halts k) s room ram uds = stopping k s room ram uds
 
--- a whole frame for the firmware
-unfoldable pub acted : State → List ℕ → List ℕ → List ℕ → Outcome
-acted s room ram uds = performed (actionOf s) s room ram uds
+-- ---- a call of `act`
 
--- ---- a call: "Numbers of refused calls and of stops"
-
--- the lowest refusal that applies, 0 for none; what is lent is given by its lengths
-unfoldable pub refusal : State → ℕ → ℕ → ℕ → ℕ
-refusal s room ram uds =
+-- the lowest refusal that applies, 0 for none; 47 is acting while no frame is whole. What is lent is given by its lengths
+unfoldable pub actRefusal : State → ℕ → ℕ → ℕ → ℕ
+actRefusal s room ram uds =
     cond (not (inRange s)) 1
     (cond (not (live (s .progress .phase))) 2
+    (cond (not (isWhole (s .incoming))) 47
     (cond (ltb room 129) 3
     (cond (not (eqb ram (s .config .«ram_len»))) 4
-    (cond (not (eqb uds 8)) 5 0))))
-
-abbrev pub withIncoming : State → Incoming → State
-withIncoming s i = record { incoming = i; config = s .config; progress = s .progress }
-
-abbrev pub afterByte : Step → State → List ℕ → List ℕ → List ℕ → Outcome
-afterByte More s room ram uds = plain continues 0 s room ram uds
-afterByte Bad s room ram uds = stopping 22 s room ram uds
-afterByte Whole s room ram uds = acted s room ram uds
-
--- a byte of a call that is not refused
-unfoldable pub processed : State → ℕ → List ℕ → List ℕ → List ℕ → Outcome
-processed s b room ram uds =
-    let g = gathered (s .incoming) b in
-    afterByte (g .step) (withIncoming s (g .incoming)) room ram uds
+    (cond (not (eqb uds 8)) 5 0)))))
 
 -- a refused call changes nothing
 abbrev pub refusing : ℕ → State → List ℕ → List ℕ → List ℕ → Outcome
 refusing k s room ram uds = plain (refused k) 0 s room ram uds
 
--- document 01's hearing
-unfoldable pub step : State → ℕ → List ℕ → List ℕ → List ℕ → Outcome
-step s b room ram uds =
-    let k = refusal s (length room) (length ram) (length uds) in
-    cond (eqb k 0) (processed s b room ram uds) (refusing k s room ram uds)
+unfoldable pub acted : State → List ℕ → List ℕ → List ℕ → Outcome
+acted s room ram uds =
+    let k = actRefusal s (length room) (length ram) (length uds) in
+    cond (eqb k 0) (performed (requestOf s) s room ram uds) (refusing k s room ram uds)

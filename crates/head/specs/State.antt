@@ -1,19 +1,27 @@
--- The state of a head between two bytes, and the range of each field: refusal 1 of document 01, docs/STATES.md.
-use Prim.Native.Nat.{ℕ}
-use mathlib.Core.Bool.{Bool, true, false, not, cond, _&&_}
+-- The state of a head between two calls, and the range of each field: refusal 1 of document 01, docs/STATES.md, which says what each holds.
+use Prim.Native.Nat.{ℕ, _+_}
+use mathlib.Core.Bool.{Bool, true, false, not, cond, _&&_, _||_}
 use lib.Dec.{eqb, leb, ltb}
 use Rattle.endian.specs.Lists.{zeros, same}
-use Rattle.framing.specs.Header.{headerAt, bodyLen}
-use Rattle.protocol.specs.Commands.{lengthOk, blocksFor}
+use Rattle.framing.specs.Header.{Reading, good, stop, headerAt, bodyLen}
+use Rattle.protocol.specs.Commands.{firmware, lengthOk, blocksFor}
 use Rattle.head.specs.declared.Phase.{Phase}
 use Rattle.head.specs.declared.Phase.the-variants.{Waiting, Loading, Started, Stopped}
 use Rattle.head.specs.declared.Incoming.{Incoming}
 use Rattle.head.specs.declared.Progress.{Progress}
 use Rattle.head.specs.declared.State.{State}
 
--- between frames header and got are 0; in a frame the header is good, and got, which counts it, is at most its body's length
+-- a frame for the firmware is whole when all of its body is there; got counts the header. One for another endpoint never is
+abbrev pub wholeBy : Reading → ℕ → Bool
+wholeBy (good id ep n) got = eqb ep firmware && eqb got (n + 1)
+wholeBy (stop k) got = false
+
+abbrev pub isWhole : Incoming → Bool
+isWhole i = wholeBy (headerAt (i .header)) (i .got)
+
+-- between frames header and got are 0; in a frame the header is good, and got is at most its body's length, or one more where it is whole
 abbrev pub incomingOk : Incoming → Bool
-incomingOk i = cond (eqb (i .got) 0) (eqb (i .header) 0) (leb (i .got) (bodyLen (headerAt (i .header))))
+incomingOk i = cond (eqb (i .got) 0) (eqb (i .header) 0) (leb (i .got) (bodyLen (headerAt (i .header))) || isWhole i)
 
 -- while waiting nothing of a load is there
 abbrev pub waitingOk : Progress → Bool
@@ -43,7 +51,7 @@ live Loading = true
 live Started = false
 live Stopped = false
 
--- no frame is being gathered
+-- no frame is being gathered, and none is whole
 abbrev pub idle : Incoming
 idle = record { header = 0; got = 0; body = zeros 128 }
 

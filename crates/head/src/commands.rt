@@ -1,6 +1,7 @@
 // What a whole frame asks for: document 01, the table of commands.
 ghost use mathlib.Core.Path.{_≡_};
-ghost use Rattle.head.specs.Machine.{actionIn, actionWaiting, actionLoading, actionOf};
+ghost use Rattle.head.specs.Machine.{requestWaiting, requestLoading, requestIn, requestOf};
+ghost use Rattle.head.specs.Steps.{requestFor};
 use super::Action;
 use super::Phase;
 use super::State;
@@ -8,7 +9,7 @@ use super::states;
 
 // A command while waiting, by its number and its body's length.
 fn action_waiting(command: u8, len: u8) -> Action
-    ensures { λ r. ⌜ r ≡ actionWaiting command len ⌝ }
+    ensures { λ r. ⌜ requestFor r ≡ requestWaiting command len ⌝ }
 {
     match command {
         0x01 => if len == 1 {
@@ -33,7 +34,7 @@ fn action_waiting(command: u8, len: u8) -> Action
 
 // A command while loading.
 fn action_loading(command: u8, len: u8) -> Action
-    ensures { λ r. ⌜ r ≡ actionLoading command len ⌝ }
+    ensures { λ r. ⌜ requestFor r ≡ requestLoading command len ⌝ }
 {
     match command {
         0x05 => if len == 128 {
@@ -48,7 +49,7 @@ fn action_loading(command: u8, len: u8) -> Action
 
 // A command.
 fn action_in(phase: Phase, command: u8, len: u8) -> Action
-    ensures { λ r. ⌜ r ≡ actionIn phase command len ⌝ }
+    ensures { λ r. ⌜ requestFor r ≡ requestIn phase command len ⌝ }
 {
     match phase {
         Phase::Waiting => action_waiting(command, len),
@@ -60,7 +61,7 @@ fn action_in(phase: Phase, command: u8, len: u8) -> Action
 
 // What the frame that was gathered asks for.
 pub fn decide(s: State) -> Action
-    ensures { λ r. ⌜ r ≡ actionOf s ⌝ }
+    ensures { λ r. ⌜ requestFor r ≡ requestOf s ⌝ }
 {
     let p = s.progress;
     let phase = p.phase;

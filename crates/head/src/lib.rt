@@ -1,14 +1,16 @@
-// A head as a state that bytes change: the types of the state and of the answers, what each byte does (specs/), what is proved of that, and
-// the code that goes by the state alone. `loader` has the calls.
-// Document 01 in the terms of specs/: State (the state and its ranges), Answers (the paper's numbers), Begin, Machine (what each byte does);
+// A head as a state that calls change: the types of the state and of the answers, what each call does (specs/), what is proved of that, and
+// the code that goes by the state alone, `gather` among it. `loader` has the calls that are lent memory.
+// Document 01 in the terms of specs/: State (the state and its ranges), Answers (the paper's numbers), Begin, Machine (what each call does);
 // the theorems are Theorems and KnownAnswers.
 mod commands;
+mod gathering;
 mod states;
 
 ghost use mathlib.Core.Path.{_≡_};
-ghost use Rattle.head.specs.Machine.{refusal};
+ghost use Rattle.head.specs.Machine.{gatherRefusal, actRefusal};
 ghost use Rattle.head.specs.Answers.{refusalNumber, stopNumber, admissionNumber};
 pub use commands::decide;
+pub use gathering::gather;
 pub use states::allowed;
 pub use states::ended;
 pub use states::idle;
@@ -23,7 +25,7 @@ pub enum Phase {
     Stopped,
 }
 
-// The frame that is being gathered.
+// The frame that is being gathered, or that is whole and waits to be acted on.
 pub struct Incoming {
     pub header: u8,
     // How many of its bytes have come, the header among them; 0 between frames.
@@ -61,7 +63,7 @@ pub struct State {
     pub progress: Progress,
 }
 
-// Why a call was refused: document 01's refusals 1 to 7. Begin gives the last two, `receive` the others.
+// Why a call was refused: document 01's refusals 1 to 7, and 47. Begin gives 6 and 7, `gather` 1, 2 and 47, `act` 1 to 5 and 47.
 pub enum Refusal {
     // A field of the state is out of its range.
     StateRange,
@@ -77,9 +79,11 @@ pub enum Refusal {
     RecordLength,
     // RAM has no byte, or over 131,072.
     RamSize,
+    // A frame is whole and is to be acted on before a byte is gathered, or none is whole and there is nothing to act on.
+    OutOfTurn,
 }
 
-// Why the head stopped: document 01's stops 20 to 25. Begin gives the first two, `receive` the others.
+// Why the head stopped: document 01's stops 20 to 25. Begin gives the first two, `gather` 22, `act` the others.
 pub enum Stop {
     // The record's type is 6 or above.
     UnknownType,
@@ -99,8 +103,10 @@ pub enum Stop {
 pub enum Answer {
     // Nothing has changed.
     Refused(Refusal),
-    // The record or the byte is taken, and the session goes on.
+    // The record or the byte is taken, or the frame was acted on, and the session goes on.
     Continue,
+    // The byte is taken, and with it a frame for the firmware is whole: it is to be acted on.
+    Whole,
     Stopped(Stop),
     // The program of this size at the front of RAM is to run, from this address.
     Started { address: u32, size: u32 },
@@ -112,8 +118,14 @@ pub struct Begun {
     pub state: State,
 }
 
-// What receiving a byte gives back.
-pub struct Received {
+// What gathering a byte gives back.
+pub struct Gathered {
+    pub answer: Answer,
+    pub state: State,
+}
+
+// What acting on a frame gives back.
+pub struct Acted {
     pub answer: Answer,
     // How many bytes at the front of the reply room are a reply: 0 for none.
     pub reply: usize,
@@ -121,22 +133,6 @@ pub struct Received {
     pub cdi: [u8; 32],
     pub digest: [u8; 32],
     pub state: State,
-}
-
-// What a gathered byte leads to.
-pub enum Step {
-    // A header, a byte of an unfinished body, or the last byte of a frame for another endpoint.
-    More,
-    // The last byte of a frame for the firmware.
-    Whole,
-    // A header with bit 7 or bit 2 set.
-    Bad,
-}
-
-// A byte gathered.
-pub struct Gathered {
-    pub step: Step,
-    pub incoming: Incoming,
 }
 
 // What is done with a whole frame.
@@ -163,6 +159,7 @@ pub fn refusal_number(r: Refusal) -> u8
         Refusal::SecretLength => 5,
         Refusal::RecordLength => 6,
         Refusal::RamSize => 7,
+        Refusal::OutOfTurn => 47,
     }
 }
 
@@ -186,9 +183,25 @@ pub enum Admission {
     Refused(Refusal),
 }
 
-// The lowest refusal that applies to a state and the lengths of what is lent, or none.
-pub fn admit(s: State, room: usize, ram: usize, uds: usize) -> Admission
-    ensures { λ r. ⌜ admissionNumber r ≡ refusal s room ram uds ⌝ }
+// The lowest refusal that applies to gathering in a state, or none.
+pub fn admit_gather(s: State) -> Admission
+    ensures { λ r. ⌜ admissionNumber r ≡ gatherRefusal s ⌝ }
+{
+    if !states::in_range(s) {
+        return Admission::Refused(Refusal::StateRange);
+    }
+    if !states::is_live(s.progress) {
+        return Admission::Refused(Refusal::Ended);
+    }
+    if states::is_whole(s.incoming) {
+        return Admission::Refused(Refusal::OutOfTurn);
+    }
+    Admission::Admitted
+}
+
+// The lowest refusal that applies to acting in a state with so many bytes and words lent, or none.
+pub fn admit_act(s: State, room: usize, ram: usize, uds: usize) -> Admission
+    ensures { λ r. ⌜ admissionNumber r ≡ actRefusal s room ram uds ⌝ }
 {
     let ram_len = s.config.ram_len;
     if !states::in_range(s) {
@@ -196,6 +209,9 @@ pub fn admit(s: State, room: usize, ram: usize, uds: usize) -> Admission
     }
     if !states::is_live(s.progress) {
         return Admission::Refused(Refusal::Ended);
+    }
+    if !states::is_whole(s.incoming) {
+        return Admission::Refused(Refusal::OutOfTurn);
     }
     if room < 129 {
         return Admission::Refused(Refusal::ReplyRoom);

@@ -1,12 +1,27 @@
 // The state: the range of each field (docs/STATES.md), and what it is after a start or a stop.
 ghost use mathlib.Core.Path.{_≡_};
 ghost use Rattle.head.specs.Machine.{allowed};
-ghost use Rattle.head.specs.State.{incomingOk, waitingOk, loadingOk, progressOk, inRange, live, ended, idle};
+ghost use Rattle.head.specs.State.{isWhole, incomingOk, waitingOk, loadingOk, progressOk, inRange, live, ended, idle};
 use super::Config;
 use super::Incoming;
 use super::Phase;
 use super::Progress;
 use super::State;
+use framing::Header;
+
+// Whether a frame for the firmware is whole.
+pub fn is_whole(i: Incoming) -> bool
+    ensures { λ r. ⌜ r ≡ isWhole i ⌝ }
+{
+    match framing::read_header(i.header) {
+        Header::Good {
+            id: _,
+            endpoint,
+            len,
+        } => endpoint == 2 && i.got as usize == len as usize + 1,
+        Header::Bad => false,
+    }
+}
 
 fn incoming_ok(i: Incoming) -> bool
     ensures { λ r. ⌜ r ≡ incomingOk i ⌝ }
@@ -14,7 +29,10 @@ fn incoming_ok(i: Incoming) -> bool
     if i.got == 0 {
         return i.header == 0;
     }
-    i.got <= framing::body_len(i.header)
+    if i.got <= framing::body_len(i.header) {
+        return true;
+    }
+    is_whole(i)
 }
 
 fn waiting_ok(p: Progress) -> bool

@@ -14,25 +14,29 @@ use Rattle.protocol.specs.Commands.{loadIn, usesUss}
 use Rattle.protocol.specs.Replies.{sent, digestReply, putIn}
 use Rattle.record.specs.Record.{typeField, numberIn}
 use Rattle.endian.specs.Lists.{zeros, Words}
-use Rattle.head.specs.Answers.{refused, started}
+use Rattle.head.specs.Answers.{refused, started, Outcome}
 use Rattle.head.specs.Begin.{beginning}
 use Rattle.session.specs.Reading.{sizeOf, programOf, digestOf, Allowed, chained, measuredId, Starting}
-use Rattle.session.specs.Session.{Entry, Among, isAccepted, receivedBytes, Session, allOf, acceptedOf, hasEnded, refusalIn}
+use Rattle.session.specs.Session.{Loan, Entry, acts, callOf, reportIn, Among, isAccepted, gatheredBytes, Session, allOf, acceptedOf, hasEnded, lastIs, isActing, frameIsWhole, refusalIn}
 
--- e is an accepted call of the session that answered a start
-pub record StartedAt (S : Session) (e : Entry) : Type 0 where
-  pub among : Among e (acceptedOf S)
+-- an accepted acting of the session answered a start
+pub record StartedAt (S : Session) (l : Loan) (o : Outcome) : Type 0 where
+  pub among : Among (acts l o) (acceptedOf S)
   pub address : ℕ
   pub size : ℕ
-  pub answers : e .out .report ≡ started address size
+  pub answers : o .report ≡ started address size
 
 -- the head has started
 abbrev pub Started : Session → Type 0
-Started S = (e : Entry) × StartedAt S e
+Started S = (l : Loan) × (o : Outcome) × StartedAt S l o
 
--- the accepted bytes read as those of a start
+-- the bytes of accepted gatherings read as those of a start
 abbrev pub Reads : Session → Type 0
-Reads S = Starting (S .rec) (S .ramLen) (receivedBytes (acceptedOf S))
+Reads S = Starting (S .rec) (S .ramLen) (gatheredBytes (acceptedOf S))
+
+-- and the last block was acted on: the last accepted call is an acting
+abbrev pub ActedOn : Session → Type 0
+ActedOn S = lastIs isActing (acceptedOf S) ≡ true
 
 -- ---- a start, by the reading of its session
 
@@ -58,32 +62,33 @@ module _ {rec : List ℕ} {m : ℕ} {received : List ℕ} (w : Starting rec m re
   startString uds = cdiString (bytes uds) (chained rec) (measuredId rec) digest used (loadIn (w .load) .uss)
 
 pub record Start (S : Session) : Type 0 where
-  pub entry : Entry
-  pub started-at : StartedAt S entry
+  pub loan : Loan
+  pub out : Outcome
+  pub started-at : StartedAt S loan out
   pub reading : Reads S
 
 abbrev pub stringAt : {S : Session} → Start S → List ℕ
-stringAt t = startString (t .reading) (t .entry .call .uds)
+stringAt t = startString (t .reading) (t .loan .uds)
 
 -- what the starting call gives and leaves
 pub record Gives {S : Session} (t : Start S) : Type 0 where
   -- address and size, the CDI and the digest
-  pub report : t .entry .out .report ≡ started 0x40000000 (sizeOf (t .reading .load))
-  pub cdi : t .entry .out .cdi ≡ blake2s [] (stringAt t) 32
+  pub report : t .out .report ≡ started 0x40000000 (sizeOf (t .reading .load))
+  pub cdi : t .out .cdi ≡ blake2s [] (stringAt t) 32
   pub string-length : length (stringAt t) ≡ cond (used (t .reading)) 97 65
-  pub digests : t .entry .out .digest ≡ digest (t .reading)
+  pub digests : t .out .digest ≡ digest (t .reading)
   -- the first n bytes carried at the front of its RAM
-  pub front : take (sizeOf (t .reading .load)) (t .entry .out .ram) ≡ program (t .reading)
+  pub front : take (sizeOf (t .reading .load)) (t .out .ram) ≡ program (t .reading)
   -- the reply to the last block, and no other byte of the room
-  pub reply : t .entry .out .reply ≡ 129
-  pub room : t .entry .out .room ≡ putIn (t .entry .call .room) (sent (digestReply (getD (t .reading .last) 0 0) (digest (t .reading))))
+  pub reply : t .out .reply ≡ 129
+  pub room : t .out .room ≡ putIn (t .loan .room) (sent (digestReply (getD (t .reading .last) 0 0) (digest (t .reading))))
   -- eight words at entry, and each of them zero at exit
-  pub eight : length (t .entry .call .uds) ≡ 8
-  pub cleared : t .entry .out .uds ≡ zeros 8
+  pub eight : length (t .loan .uds) ≡ 8
+  pub cleared : t .out .uds ≡ zeros 8
 
 -- what two starts with one string share
 pub record Same {S S′ : Session} (t : Start S) (t′ : Start S′) : Type 0 where
-  pub uds : t .entry .call .uds ≡ t′ .entry .call .uds
+  pub uds : t .loan .uds ≡ t′ .loan .uds
   pub chaining : chained (S .rec) ≡ chained (S′ .rec)
   pub measured : measurement (t .reading) ≡ measurement (t′ .reading)
   pub secret : userSecret (t .reading) ≡ userSecret (t′ .reading)
@@ -96,15 +101,15 @@ pub record StartOf (rec udi ram uds prog : List ℕ) (secret : Option (List ℕ)
   pub same-udi : session .udi ≡ udi
   pub same-length : session .ramLen ≡ length ram
   pub same-ram : session .ram ≡ ram
-  pub same-uds : start .entry .call .uds ≡ uds
+  pub same-uds : start .loan .uds ≡ uds
   pub same-program : program (start .reading) ≡ prog
   pub same-secret : userSecret (start .reading) ≡ secret
   -- no call of it is refused
   pub none-refused : acceptedOf session ≡ allOf session
 
 pub record VerifiedBoot : Type 0 where
-  -- a head has started exactly when its accepted bytes read as those of a start
-  pub exactly : (S : Session) → Started S ↔ Reads S
+  -- a head has started exactly when its accepted bytes read as those of a start and the last block was acted on
+  pub exactly : (S : Session) → Started S ↔ (Reads S × ActedOn S)
   -- every start gives what it should, and the reading of its bytes is one
   pub gives : (S : Session) (t : Start S) → Gives t
   pub one-reading : (S : Session) (w w′ : Reads S) → (w .opening ≡ w′ .opening) × (w .load ≡ w′ .load) × (w .blocks ≡ w′ .blocks)
@@ -113,7 +118,7 @@ pub record VerifiedBoot : Type 0 where
   pub injective : (S S′ : Session) (t : Start S) (t′ : Start S′) → stringAt t ≡ stringAt t′ → Same t t′
   -- every call of the list answers a number of refusal exactly when the table says so
   pub table : (S : Session) (e : Entry) (i : Among e (allOf S)) (k : ℕ)
-      → (e .out .report ≡ refused k) ↔ ((k ≡ refusalIn (hasEnded (i .before)) (S .ramLen) (e .call)) × (k ≡ 0 → ⊥))
+      → (reportIn e ≡ refused k) ↔ ((k ≡ refusalIn (hasEnded (i .before)) (frameIsWhole (i .before)) (S .ramLen) (callOf e)) × (k ≡ 0 → ⊥))
   -- every program of 1 byte to the RAM's length starts, if the record allows it, with any user secret or none, whatever RAM and UDS hold
   pub exists : (rec udi ram uds prog : List ℕ) (flag : Bool) (uss : List ℕ)
       → isAccepted (beginning rec udi (length ram) .report) ≡ true → (numberIn typeField rec ≡ 4) ⊎ (numberIn typeField rec ≡ 5)

@@ -1,6 +1,6 @@
 -- The shed bench of document 01: P1 to P13 as one list. Each is about the definitions that promises use. The proof is `checklist` in
 -- proofs/Checked.antt.
-use Prim.Native.Nat.{ℕ, _≤_}
+use Prim.Native.Nat.{ℕ}
 use mathlib.Core.Path.{_≡_}
 use mathlib.Core.Logic.{_⊎_}
 use mathlib.Core.Bool.{true, false}
@@ -13,41 +13,31 @@ use Rattle.record.specs.Record.{typeField, numberIn}
 use Rattle.cdi.specs.Theorems.{Inputs, stringOf}
 use Rattle.head.specs.Answers.{continues, stopped}
 use Rattle.head.specs.Begin.{beginning}
-use Rattle.head.specs.Machine.{step}
+use Rattle.head.specs.Machine.{gathered}
 use Rattle.session.specs.Session.{isAccepted}
 use Rattle.head.specs.declared.State.{State}
 
--- a state and what is lent with it
-pub record Head : Type 0 where
-  pub state : State
-  pub room : List ℕ
-  pub ram : List ℕ
-  pub uds : List ℕ
-
--- a head that was begun on a record of type 4 or 5, and lends what no call refuses
-pub record Begun (h : Head) : Type 0 where
+-- the state of a head that was begun on a record of type 4 or 5
+pub record Begun (s : State) : Type 0 where
   pub rec : List ℕ
   pub udi : List ℕ
-  pub begins : isAccepted (beginning rec udi (length (h .ram)) .report) ≡ true
+  pub ramLen : ℕ
+  pub begins : isAccepted (beginning rec udi ramLen .report) ≡ true
   pub client : (numberIn typeField rec ≡ 4) ⊎ (numberIn typeField rec ≡ 5)
-  pub state : h .state ≡ beginning rec udi (length (h .ram)) .state
-  pub room : 129 ≤ length (h .room)
-  pub uds : length (h .uds) ≡ 8
+  pub state : s ≡ beginning rec udi ramLen .state
 
--- from h the bytes are received without a reply, and lead to h′
-abbrev pub PassedOver : List ℕ → Head → Head → Type 0
-PassedOver [] h h′ = h ≡ h′
-PassedOver (b ∷ bs) h h′ =
-    let o = step (h .state) b (h .room) (h .ram) (h .uds) in
-    (o .report ≡ continues) × (o .reply ≡ 0) × PassedOver bs (record { state = o .state; room = o .room; ram = o .ram; uds = o .uds }) h′
+-- the bytes are gathered, none of them makes a frame whole, and they lead from s to s′
+abbrev pub PassedOver : List ℕ → State → State → Type 0
+PassedOver [] s s′ = s ≡ s′
+PassedOver (b ∷ bs) s s′ = (gathered s b .report ≡ continues) × PassedOver bs (gathered s b .state) s′
 
 pub record Checklist : Type 0 where
   pub p1 : headerAt 0x10 ≡ good 0 2 1
   pub p2 : headerAt 0x73 ≡ good 3 2 128
-  -- endpoint 3: header and body leave state, room, RAM and words as they were
-  pub p3 : (headerAt 0x1b ≡ good 0 3 128) × ((h : Head) → Begun h → (body : List ℕ) → length body ≡ 128 → PassedOver (0x1b ∷ body) h h)
-  pub p4 : (h : Head) → Begun h → step (h .state) 0x90 (h .room) (h .ram) (h .uds) .report ≡ stopped 22
-  pub p5 : (h : Head) → Begun h → step (h .state) 0x14 (h .room) (h .ram) (h .uds) .report ≡ stopped 22
+  -- endpoint 3: header and body leave the state as it was, and there is nothing to act on
+  pub p3 : (headerAt 0x1b ≡ good 0 3 128) × ((s : State) → Begun s → (body : List ℕ) → length body ≡ 128 → PassedOver (0x1b ∷ body) s s)
+  pub p4 : (s : State) → Begun s → gathered s 0x90 .report ≡ stopped 22
+  pub p5 : (s : State) → Begun s → gathered s 0x14 .report ≡ stopped 22
   pub p6 : blocksFor 127 ≡ 1
   pub p7 : blocksFor 128 ≡ 2
   pub p8 : blocksFor 254 ≡ 2

@@ -1,6 +1,6 @@
 -- The server's half against the head: change request 1. The frames are those that the promise of `make_frame` cites, the replies are read as that of
 -- `read_reply` says, and the head is a session of specs/Session.antt. The proof is `client-load` in proofs/Client.antt.
-use Prim.Native.Nat.{ℕ, zero, suc, _/_, _%_, _≤_}
+use Prim.Native.Nat.{ℕ, zero, suc, _≤_}
 use mathlib.Core.Path.{_≡_}
 use mathlib.Core.Logic.{_↔_, _⊎_}
 use mathlib.Core.Bool.{true, false, cond}
@@ -15,7 +15,7 @@ use Rattle.protocol.specs.Commands.{firmware, loadIn, carriedBy, blocksFor, pla
 use Rattle.endian.specs.Lists.{padded, Bytes, Words, zeros}
 use Rattle.protocol.specs.Theorems.{loadWith}
 use Rattle.record.specs.Record.{typeField, numberIn}
-use Rattle.head.specs.Answers.{started}
+use Rattle.head.specs.Answers.{started, Outcome}
 use Rattle.head.specs.Begin.{beginning}
 use Rattle.client.specs.Frames.{refusal, commandFrame}
 use Rattle.client.specs.Replies.{takingAs, taking}
@@ -24,8 +24,14 @@ use Rattle.upload.specs.Upload.{jobOf, opening, bytesOf, runs}
 use Rattle.upload.specs.declared.Job.{Job}
 use Rattle.upload.specs.declared.Next.the-variants.{Loaded}
 use Rattle.session.specs.Reading.{LoadFrame, GoodLoad, BlockFrame, Allowed, chained, measuredId}
-use Rattle.session.specs.Session.{Entry, Among, isAccepted, receivedBytes, repliesOf, Session, allOf, acceptedOf, hasEnded}
+use Rattle.session.specs.Session.{Loan, Entry, gathers, acts, Among, isAccepted, gatheredBytes, repliesOf, Session, allOf, acceptedOf, hasEnded, lastIs, isActing}
 use Rattle.session.specs.Boot.{Start}
+
+-- how many of these calls are actings
+abbrev pub actings : List Entry → ℕ
+actings [] = 0
+actings (gathers b o ∷ es) = actings es
+actings (acts l o ∷ es) = suc (actings es)
 
 module _ (program : List ℕ) (id : ℕ) (secret : Secret) where
   -- the frames that are made: frame 0 is the load, frame k block k - 1
@@ -72,41 +78,43 @@ module _ (program : List ℕ) (id : ℕ) (secret : Secret) where
 
   -- ---- the frames on a head
 
-  -- a session of a fresh head of type 4 or 5 in which it received these frames and no call was refused: RAM has room for the program, and type 5
-  -- requires its digest
+  -- a session of a fresh head of type 4 or 5 in which it gathered these frames, no call was refused and the last was an acting: RAM has room for
+  -- the program, and type 5 requires its digest
   pub record ReceivesFrames (S : Session) : Type 0 where
     pub fits : length program ≤ S .ramLen
     pub allowed : Allowed (S .rec) programDigest
-    pub bytes : receivedBytes (allOf S) ≡ flatten frames
+    pub bytes : gatheredBytes (allOf S) ≡ flatten frames
     pub none-refused : acceptedOf S ≡ allOf S
+    pub acted-on : lastIs isActing (allOf S) ≡ true
 
   -- the digest that the reply to frame k gives: the program's with the last one, and otherwise none, which is zeros
   abbrev pub digestAt : ℕ → List ℕ
   digestAt k = cond (eqb k (blocksFor (length program))) programDigest (zeros 32)
 
-  -- what a call leaves in its room, where it is call i from 0, and so received byte i % 129 of frame i / 129
-  pub record Replied (i : ℕ) (e : Entry) : Type 0 where
-    -- a reply comes with the last byte of a frame and with no other
-    pub silent : (i % 129 ≡ 128 → ⊥) → e .out .reply ≡ 0
-    -- the client takes it as the reply to that frame, with status 0
-    pub taken : i % 129 ≡ 128 → taking (length program) id (i / 129) (take (e .out .reply) (e .out .room)) ≡ takingAs 0 0 (digestAt (i / 129))
+  -- what an acting finds, and what it leaves in its room, where k others came before it
+  pub record Replied (k : ℕ) (before : List Entry) (o : Outcome) : Type 0 where
+    -- frame k has come whole, and nothing after it
+    pub frame-whole : gatheredBytes before ≡ flatten (framesTo (suc k))
+    -- the client takes the reply as the one to that frame, with status 0
+    pub taken : taking (length program) id k (take (o .reply) (o .room)) ≡ takingAs 0 0 (digestAt k)
 
   -- what a laptop is told that loads this program, with so many ticks to wait
   abbrev pub job : ℕ → Job
   job wait = jobOf program id wait
 
   pub record Loads (S : Session) : Type 0 where
-    -- the head starts at the last byte of the last frame, and not before; what every start gives (`Gives`) holds of this one
+    -- the head starts when it acts on the last frame, and not before; what every start gives (`Gives`) holds of this one
     pub start : Start S
     pub before : List Entry
-    pub last : allOf S ≡ before ++ start .entry ∷ []
+    pub last : allOf S ≡ before ++ acts (start .loan) (start .out) ∷ []
     pub not-before : hasEnded before ≡ false
     -- with this program at the front of RAM, and this user secret or none in the string of the CDI
-    pub report : start .entry .out .report ≡ started 0x40000000 (length program)
-    pub front : take (length program) (start .entry .out .ram) ≡ program
-    pub cdi : start .entry .out .cdi
-        ≡ blake2s [] (cdiString (bytes (start .entry .call .uds)) (chained (S .rec)) (measuredId (S .rec)) programDigest (secret .used) (secret .uss)) 32
-    pub replies : (e : Entry) (i : Among e (allOf S)) → Replied (length (i .before)) e
+    pub report : start .out .report ≡ started 0x40000000 (length program)
+    pub front : take (length program) (start .out .ram) ≡ program
+    pub cdi : start .out .cdi
+        ≡ blake2s [] (cdiString (bytes (start .loan .uds)) (chained (S .rec)) (measuredId (S .rec)) programDigest (secret .used) (secret .uss)) 32
+    -- each acting, by the number of actings before it
+    pub replies : (l : Loan) (o : Outcome) (i : Among (acts l o) (allOf S)) → Replied (actings (i .before)) (i .before) o
     -- the laptop that is given these replies, one after the other, says that the program is loaded
     pub laptop : (wait : ℕ) → runs (job wait) (opening (job wait)) (bytesOf (repliesOf (allOf S))) .next ≡ Loaded
 

@@ -8,7 +8,7 @@ use Rattle.head.specs.State.{inRange}
 use Rattle.head.specs.Answers.{refused}
 use Rattle.head.specs.Begin.{beginning}
 use Rattle.head.specs.declared.State.{State}
-use Rattle.session.specs.Session.{Call, Entry, Among, log}
+use Rattle.session.specs.Session.{Call, Entry, reportIn, stateAfter, Among, log}
 
 -- any begin and any calls after it
 module _ (rec udi : List ℕ) (m : ℕ) (calls : List Call) where
@@ -18,6 +18,6 @@ module _ (rec udi : List ℕ) (m : ℕ) (calls : List Call) where
   pub record Ranges : Type 0 where
     -- the state that begin hands back is in range, and so is that after each call
     pub begun : inRange first ≡ true
-    pub reached : (e : Entry) → Among e (log first calls) → inRange (e .out .state) ≡ true
+    pub reached : (e : Entry) → Among e (log first calls) → inRange (stateAfter e) ≡ true
     -- no call answers refusal 1
-    pub never-one : (e : Entry) → Among e (log first calls) → e .out .report ≡ refused 1 → ⊥
+    pub never-one : (e : Entry) → Among e (log first calls) → reportIn e ≡ refused 1 → ⊥

@@ -1,5 +1,5 @@
--- A session: an accepted begin, then calls of `receive` one after another. The definitions are those that the promises of `begin` and `receive`
--- cite (`beginning`, `step`).
+-- A session: an accepted begin, then calls of `gather` and `act` one after another, in any order. The definitions are those that the promises of
+-- `begin`, `gather` and `act` cite (`beginning`, `gathered`, `acted`).
 use Prim.Native.Nat.{ℕ}
 use mathlib.Core.Path.{_≡_}
 use mathlib.Core.Logic.{_⊎_}
@@ -9,26 +9,43 @@ use lib.Dec.{eqb, ltb}
 use lib.ListN.{length, take}
 use Rattle.endian.specs.Lists.{Words}
 use Rattle.record.specs.Record.{typeField, numberIn}
-use Rattle.head.specs.Answers.{Report, refused, continues, stopped, started, Outcome}
+use Rattle.head.specs.Answers.{Report, refused, continues, whole, stopped, started, Gathering, Outcome}
 use Rattle.head.specs.Begin.{beginning}
-use Rattle.head.specs.Machine.{step}
+use Rattle.head.specs.Machine.{gathered, acted}
 use Rattle.head.specs.declared.State.{State}
 
--- what a call gets besides the state: byte, reply room, RAM and UDS may be anything. That a word of the UDS has 32 bits is its type in the code
-pub record Call : Type 0 where
-  pub byte : ℕ
+-- what is lent to an acting: reply room, RAM and UDS may be anything. That a word of the UDS has 32 bits is its type in the code
+pub record Loan : Type 0 where
   pub room : List ℕ
   pub ram : List ℕ
   pub uds : List ℕ
   pub words : Words uds
 
+-- what a call gets besides the state: a gathering a byte and nothing else, an acting no byte
+pub data Call : Type 0 where
+  gather : ℕ → Call
+  act : Loan → Call
+
 -- a call and what came of it
-pub record Entry : Type 0 where
-  pub call : Call
-  pub out : Outcome
+pub data Entry : Type 0 where
+  gathers : ℕ → Gathering → Entry
+  acts : Loan → Outcome → Entry
 
 abbrev pub entryOf : State → Call → Entry
-entryOf s c = record { call = c; out = step s (c .byte) (c .room) (c .ram) (c .uds) }
+entryOf s (gather b) = gathers b (gathered s b)
+entryOf s (act l) = acts l (acted s (l .room) (l .ram) (l .uds))
+
+abbrev pub callOf : Entry → Call
+callOf (gathers b o) = gather b
+callOf (acts l o) = act l
+
+abbrev pub reportIn : Entry → Report
+reportIn (gathers b o) = o .report
+reportIn (acts l o) = o .report
+
+abbrev pub stateAfter : Entry → State
+stateAfter (gathers b o) = o .state
+stateAfter (acts l o) = o .state
 
 -- e is one of these calls
 pub record Among (e : Entry) (es : List Entry) : Type 0 where
@@ -39,33 +56,37 @@ pub record Among (e : Entry) (es : List Entry) : Type 0 where
 -- each call gets the state that the one before it handed back
 abbrev pub log : State → List Call → List Entry
 log s [] = []
-log s (c ∷ cs) = entryOf s c ∷ log (entryOf s c .out .state) cs
+log s (c ∷ cs) = entryOf s c ∷ log (stateAfter (entryOf s c)) cs
 
 -- a call is accepted when it answers no number of refusal
 abbrev pub isAccepted : Report → Bool
 isAccepted (refused k) = false
 isAccepted continues = true
+isAccepted whole = true
 isAccepted (stopped k) = true
 isAccepted (started address size) = true
 
 abbrev pub accepted : List Entry → List Entry
 accepted [] = []
-accepted (e ∷ es) = cond (isAccepted (e .out .report)) (e ∷ accepted es) (accepted es)
+accepted (e ∷ es) = cond (isAccepted (reportIn e)) (e ∷ accepted es) (accepted es)
 
--- the bytes that calls received
-abbrev pub receivedBytes : List Entry → List ℕ
-receivedBytes [] = []
-receivedBytes (e ∷ es) = e .call .byte ∷ receivedBytes es
+-- the bytes that were gathered
+abbrev pub gatheredBytes : List Entry → List ℕ
+gatheredBytes [] = []
+gatheredBytes (gathers b o ∷ es) = b ∷ gatheredBytes es
+gatheredBytes (acts l o ∷ es) = gatheredBytes es
 
--- and those of their replies, which each leaves at the front of its room
+-- and those of the replies, which each acting leaves at the front of its room
 abbrev pub repliesOf : List Entry → List ℕ
 repliesOf [] = []
-repliesOf (e ∷ es) = take (e .out .reply) (e .out .room) ++ repliesOf es
+repliesOf (gathers b o ∷ es) = repliesOf es
+repliesOf (acts l o ∷ es) = take (o .reply) (o .room) ++ repliesOf es
 
--- the RAM of the first holds r, and that of each later one what the one before it left
+-- the RAM of the first acting holds r, and that of each later one what the acting before it left
 abbrev pub OneRam : List ℕ → List Entry → Type 0
 OneRam r [] = Unit {0}
-OneRam r (e ∷ es) = (e .call .ram ≡ r) × OneRam (e .out .ram) es
+OneRam r (gathers b o ∷ es) = OneRam r es
+OneRam r (acts l o ∷ es) = (l .ram ≡ r) × OneRam (o .ram) es
 
 pub record Session : Type 0 where
   -- an accepted begin on a record of type 4 or 5
@@ -74,7 +95,7 @@ pub record Session : Type 0 where
   pub ramLen : ℕ
   pub begins : isAccepted (beginning rec udi ramLen .report) ≡ true
   pub client : (numberIn typeField rec ≡ 4) ⊎ (numberIn typeField rec ≡ 5)
-  -- the calls, of which the first gets begin's state, and the bytes in RAM at the first accepted one
+  -- the calls, of which the first gets begin's state, and the bytes in RAM at the first accepted acting
   pub calls : List Call
   pub ram : List ℕ
   pub one-ram : OneRam ram (accepted (log (beginning rec udi ramLen .state) calls))
@@ -90,18 +111,47 @@ acceptedOf S = accepted (allOf S)
 abbrev pub isEnd : Report → Bool
 isEnd (refused k) = false
 isEnd continues = false
+isEnd whole = false
 isEnd (stopped k) = true
 isEnd (started address size) = true
 
 abbrev pub hasEnded : List Entry → Bool
 hasEnded [] = false
-hasEnded (e ∷ es) = isEnd (e .out .report) || hasEnded es
+hasEnded (e ∷ es) = isEnd (reportIn e) || hasEnded es
 
--- the table of refused calls in the words of a session, 0 for a call that is not refused. Number 1 is not in it: no state reached from a begin is
--- out of range (specs/Ranges.antt)
-abbrev pub refusalIn : Bool → ℕ → Call → ℕ
-refusalIn ended m c =
+-- the last of these calls is such a one
+abbrev pub lastIs : (Entry → Bool) → List Entry → Bool
+lastIs p [] = false
+lastIs p (e ∷ []) = p e
+lastIs p (e ∷ x ∷ es) = lastIs p (x ∷ es)
+
+abbrev pub isActing : Entry → Bool
+isActing (gathers b o) = false
+isActing (acts l o) = true
+
+abbrev pub isWholeReport : Report → Bool
+isWholeReport (refused k) = false
+isWholeReport continues = false
+isWholeReport whole = true
+isWholeReport (stopped k) = false
+isWholeReport (started address size) = false
+
+-- a gathering that answered whole
+abbrev pub completes : Entry → Bool
+completes (gathers b o) = isWholeReport (o .report)
+completes (acts l o) = false
+
+-- a frame is whole after these calls: the last accepted one was a gathering that answered whole
+abbrev pub frameIsWhole : List Entry → Bool
+frameIsWhole es = lastIs completes (accepted es)
+
+-- the table of refused calls in the words of a session, 0 for a call that is not refused: whether the head has ended, whether a frame is whole,
+-- the RAM's length at begin, and the call. Number 1 is not in it: no state reached from a begin is out of range (specs/Ranges.antt)
+abbrev pub refusalIn : Bool → Bool → ℕ → Call → ℕ
+refusalIn ended full m (gather b) = cond ended 2 (cond full 47 0)
+refusalIn ended full m (act l) =
     cond ended 2
-    (cond (ltb (length (c .room)) 129) 3
-    (cond (not (eqb (length (c .ram)) m)) 4
-    (cond (not (eqb (length (c .uds)) 8)) 5 0)))
+    (cond (not full) 47
+    (cond (ltb (length (l .room)) 129) 3
+    (cond (not (eqb (length (l .ram)) m)) 4
+    (cond (not (eqb (length (l .uds)) 8)) 5 0))))

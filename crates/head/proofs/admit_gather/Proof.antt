@@ -1,12 +1,12 @@
 -- Each return has the number that the tests before it leave.
 use mathlib.Core.Path.{_≡_, sym, _∙_}
 use mathlib.Core.Bool.{true}
-use borrow.Author.Tests.{eq-eqb, ne-eqb, lt-ltb, le-ltb, not-true, not-false}
+use borrow.Author.Tests.{not-true, not-false}
 use Rattle.head.specs.State.{inRange, live}
-use Rattle.head.specs.Machine.{refusal}
+use Rattle.head.specs.Machine.{gatherRefusal}
 use borrow.Author.Needs.{needs}
-use Rattle.head.proofs.admit.Statement.{statement}
-use Rattle.head.proofs.admit.Tie as tie
+use Rattle.head.proofs.admit_gather.Statement.{statement}
+use Rattle.head.proofs.admit_gather.Tie as tie
 
 -- the first test is passed
 ranged : (b : tie.Else1) → inRange (b .before .before .args .s) ≡ true
@@ -17,48 +17,37 @@ living : (b : tie.Else2) → live (b .before .before .before .before .args .s .p
 living b = sym (b .before .is-live .ensures) ∙ not-false (b .before .is-live .result) (b .if2 .left)
 
 returns : tie.Need-returns
-unfolding refusal
+unfolding gatherRefusal
 returns c = let i = c .before .in-range in rw (← (i .ensures), not-true (i .result) (c .if1 .taken))
 
 returns-2 : tie.Need-returns-2
-unfolding refusal
+unfolding gatherRefusal
 returns-2 c =
     let l = c .before .is-live in
     rw (ranged (c .before .before), ← (l .ensures), not-true (l .result) (c .if2 .taken))
 
 returns-3 : tie.Need-returns-3
-unfolding refusal
+unfolding gatherRefusal
 returns-3 c =
-    let b = c .before in
-    rw (ranged (b .before .before), living b, lt-ltb _ _ (c .if3 .taken))
+    let w = c .before .is-whole in
+    let b = c .before .before in
+    rw (ranged (b .before .before), living b, ← (w .ensures), c .if3 .taken)
 
 returns-4 : tie.Need-returns-4
-unfolding refusal
+unfolding gatherRefusal
 returns-4 c =
+    let w = c .before .is-whole in
     let b = c .before .before in
-    rw (ranged (b .before .before), living b, le-ltb _ _ (c .before .if3 .left), ne-eqb _ _ (c .if4 .taken))
+    rw (ranged (b .before .before), living b, ← (w .ensures), c .if3 .left)
 
-returns-5 : tie.Need-returns-5
-unfolding refusal
-returns-5 c =
-    let b = c .before .before .before in
-    rw (ranged (b .before .before), living b, le-ltb _ _ (c .before .before .if3 .left), eq-eqb _ _ (c .before .if4 .left), ne-eqb _ _ (c .if5 .taken))
-
-returns-6 : tie.Need-returns-6
-unfolding refusal
-returns-6 c =
-    let b = c .before .before .before in
-    rw (ranged (b .before .before), living b, le-ltb _ _ (c .before .before .if3 .left), eq-eqb _ _ (c .before .if4 .left), eq-eqb _ _ (c .if5 .left))
-
-pub admit-spec : {M : Type 1} → statement M
-admit-spec =
+pub admit-gather-spec : {M : Type 1} → statement M
+admit-gather-spec =
     tie.close
     (tie.spec
     (λ c κs. search needs)
     returns
     (λ c κs. search needs)
     returns-2
+    (λ c κs. search needs)
     returns-3
-    returns-4
-    returns-5
-    returns-6)
+    returns-4)
