@@ -1,4 +1,7 @@
 pub mod Ranges
 pub mod Actions
 pub mod Admitted
+pub mod Ways
+pub mod Frames
+pub mod Proved
 pub mod KnownAnswers

@@ -1,5 +1,4 @@
 -- Between frames the byte is a header; otherwise the header of the frame says what it is.
-use mathlib.Core.Path.{_≡_, ap}
 use borrow.Author.Tests.{eq-eqb, ne-eqb}
 use Rattle.head.specs.Machine.{byteStep}
 use Rattle.head.proofs.Ranges.{incoming-got}
