@@ -8,14 +8,14 @@ ghost use Rattle.protocol.specs.Commands.{longest};
 ghost use Rattle.protocol.specs.Replies.{nameReply, udiReply};
 ghost use Rattle.head.specs.State.{progressOk, loadingOk, ended};
 ghost use Rattle.head.specs.Answers.{outcome};
-ghost use Rattle.head.specs.Machine.{between, loaded, afterLoad, loadAnswer, nextBlock, starting, finished, actedBlock, acted};
+ghost use Rattle.head.specs.Machine.{between, loaded, afterLoad, loadAnswer, nextBlock, starting, finished, actedBlock, requestOf, performed};
 ghost use Rattle.loader.specs.Steps.{plainly, Replies, frameOf};
+use head::Acted;
 use head::Action;
 use head::Answer;
 use head::Incoming;
 use head::Phase;
 use head::Progress;
-use head::Received;
 use head::State;
 use head::Stop;
 use protocol::Frame;
@@ -23,10 +23,10 @@ use protocol::Load;
 use protocol::Reply;
 
 // An answer with neither CDI nor digest.
-pub fn plain(answer: Answer, reply: usize, state: State) -> Received
+pub fn plain(answer: Answer, reply: usize, state: State) -> Acted
     ensures { λ r. ⌜ r ≡ plainly answer reply state ⌝ }
 {
-    Received {
+    Acted {
         answer,
         reply,
         state,
@@ -36,7 +36,7 @@ pub fn plain(answer: Answer, reply: usize, state: State) -> Received
 }
 
 // A stop without a reply.
-pub fn stop(why: Stop, s: State) -> Received
+fn stop(why: Stop, s: State) -> Acted
     ensures { λ r. ⌜ r ≡ plainly (Answer.Stopped why) 0 (ended Phase.Stopped (s .config .«ram_len»)) ⌝ }
 {
     plain(
@@ -58,7 +58,7 @@ fn frame(i: Incoming) -> Frame
 }
 
 // A reply, after which the session goes on.
-fn answer(s: State, p: Progress, r: Reply, room: &mut [u8]) -> Received
+fn answer(s: State, p: Progress, r: Reply, room: &mut [u8]) -> Acted
     requires { ⌜ 129 ≤ length (now room) ⌝ }
     requires { ⌜ r .len ≤ 128 ⌝ }
     ensures { λ x. ⌜ Replies x r (between s p) (now (room .entry)) (now (room .exit)) ⌝ }
@@ -75,7 +75,7 @@ fn answer(s: State, p: Progress, r: Reply, room: &mut [u8]) -> Received
 }
 
 // A query for the name.
-fn answer_name(s: State, room: &mut [u8]) -> Received
+fn answer_name(s: State, room: &mut [u8]) -> Acted
     requires { ⌜ 129 ≤ length (now room) ⌝ }
     ensures { λ r. ⌜ Replies r (nameReply (s .incoming .header)) (between s (s .progress)) (now (room .entry)) (now (room .exit)) ⌝ }
 {
@@ -84,7 +84,7 @@ fn answer_name(s: State, room: &mut [u8]) -> Received
 }
 
 // A query for the device's identity (UDI).
-fn answer_udi(s: State, room: &mut [u8]) -> Received
+fn answer_udi(s: State, room: &mut [u8]) -> Acted
     requires { ⌜ 129 ≤ length (now room) ⌝ }
     ensures { λ r. ⌜ Replies r (udiReply (s .incoming .header) (s .config .udi)) (between s (s .progress)) (now (room .entry)) (now (room .exit)) ⌝ }
 {
@@ -109,7 +109,7 @@ fn loaded(l: Load) -> Progress
 }
 
 // A load: one that is not taken changes nothing.
-fn act_load(s: State, room: &mut [u8]) -> Received
+fn act_load(s: State, room: &mut [u8]) -> Acted
     requires { ⌜ 129 ≤ length (now room) ⌝ }
     ensures { λ r. ⌜ Replies r (loadAnswer s) (between s (afterLoad s)) (now (room .entry)) (now (room .exit)) ⌝ }
 {
@@ -135,7 +135,7 @@ fn next_block(p: Progress) -> Progress
 }
 
 // A start: the device secret is read, and then cleared.
-fn start(s: State, digest: [u8; 32], uds: &mut [u32]) -> Received
+fn start(s: State, digest: [u8; 32], uds: &mut [u32]) -> Acted
     requires { ⌜ length (now uds) ≡ 8 ⌝ }
     ensures { λ r. ⌜ ((room ram : List ℕ) → outcome r room ram (now (uds .exit)) ≡ starting digest s room ram (now (uds .entry))) ⌝ }
 {
@@ -146,7 +146,7 @@ fn start(s: State, digest: [u8; 32], uds: &mut [u32]) -> Received
     let uss = p.uss;
     let cdi = cdi::derive(secret, c.chained, measured_id, digest, p.uss_used, uss);
     endian::clear(uds);
-    Received {
+    Acted {
         answer: Answer::Started {
             address: 0x40000000,
             size: p.size,
@@ -159,7 +159,7 @@ fn start(s: State, digest: [u8; 32], uds: &mut [u32]) -> Received
 }
 
 // After the last block the program is measured, its digest is given, and the head starts or stops.
-fn finish(s: State, room: &mut [u8], ram: &mut [u8], uds: &mut [u32]) -> Received
+fn finish(s: State, room: &mut [u8], ram: &mut [u8], uds: &mut [u32]) -> Acted
     requires { ⌜ 129 ≤ length (now room) ⌝ }
     requires { ⌜ (s .progress .size ≤ length (now ram)) × (s .progress .size ≤ longest) ⌝ }
     requires { ⌜ length (now uds) ≡ 8 ⌝ }
@@ -181,7 +181,7 @@ fn finish(s: State, room: &mut [u8], ram: &mut [u8], uds: &mut [u32]) -> Receive
 }
 
 // A block.
-fn act_block(s: State, room: &mut [u8], ram: &mut [u8], uds: &mut [u32]) -> Received
+fn act_block(s: State, room: &mut [u8], ram: &mut [u8], uds: &mut [u32]) -> Acted
     requires { ⌜ 129 ≤ length (now room) ⌝ }
     requires { ⌜ loadingOk (s .progress) (length (now ram)) ≡ true ⌝ }
     requires { ⌜ length (now ram) ≤ longest ⌝ }
@@ -197,13 +197,13 @@ fn act_block(s: State, room: &mut [u8], ram: &mut [u8], uds: &mut [u32]) -> Rece
     answer(s, next_block(p), protocol::block_reply(i.header), room)
 }
 
-// A whole frame for the firmware.
-pub fn act(s: State, room: &mut [u8], ram: &mut [u8], uds: &mut [u32]) -> Received
+// A whole frame of a call that is not refused.
+pub fn perform(s: State, room: &mut [u8], ram: &mut [u8], uds: &mut [u32]) -> Acted
     requires { ⌜ progressOk (s .progress) (length (now ram)) ≡ true ⌝ }
     requires { ⌜ 129 ≤ length (now room) ⌝ }
     requires { ⌜ length (now ram) ≤ longest ⌝ }
     requires { ⌜ length (now uds) ≡ 8 ⌝ }
-    ensures { λ r. ⌜ outcome r (now (room .exit)) (now (ram .exit)) (now (uds .exit)) ≡ acted s (now (room .entry)) (now (ram .entry)) (now (uds .entry)) ⌝ }
+    ensures { λ r. ⌜ outcome r (now (room .exit)) (now (ram .exit)) (now (uds .exit)) ≡ performed (requestOf s) s (now (room .entry)) (now (ram .entry)) (now (uds .entry)) ⌝ }
 {
     match head::decide(s) {
         Action::AnswerName => answer_name(s, room),
