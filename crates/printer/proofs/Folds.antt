@@ -11,9 +11,9 @@ use borrow.Author.Tests.{ne-eqb, lt-ltb, le-ltb, ltb-true, ltb-false}
 use Rattle.head.specs.Answers.{Outcome}
 use Rattle.text.proofs.Proved.{texts}
 use Rattle.printer.specs.Lines.{waitingLine, errorLine}
-use Rattle.printer.specs.Output.{afterBegin, afterReceive, callText, outputFrom, output}
+use Rattle.printer.specs.Output.{afterBegin, afterByte, callText, outputFrom, output}
 use Rattle.printer.specs.Turns.{turnOf, opening, loop, turns}
-use Rattle.printer.proofs.Lengths.{Short, waiting-short, error-short, call-short, begin-short, receive-short}
+use Rattle.printer.proofs.Lengths.{Short, waiting-short, error-short, call-short, begin-short, byte-short}
 
 loop-is : (bytes : List ℕ) (o : Outcome) (n : ℕ) → Short o → n + length bytes < 2 ^ 64
     → loop (turnOf n o) (o .ram) (296 + n) bytes ≡ outputFrom o n bytes
@@ -22,7 +22,7 @@ loop-is (b ∷ bytes) o n s h =
     let e : eqb n (2 ^ 64 - 1) ≡ false = ne-eqb n (2 ^ 64 - 1) (λ z. omega arith) in
     let a : 296 + n + 1 ≡ 296 + (n + 1) = omega arith in
     let l : n + 1 + length bytes < 2 ^ 64 = omega arith in
-    let next = loop-is bytes (afterReceive (o .state) (o .uds) (o .ram) b) (n + 1) (receive-short (o .state) (o .uds) (o .ram) b) l in
+    let next = loop-is bytes (afterByte (o .state) (o .uds) (o .ram) b) (n + 1) (byte-short (o .state) (o .uds) (o .ram) b) l in
     rw (texts .written (callText o) (call-short o s), e, a, next)
 
 short : (input : List ℕ) (m : ℕ) → length input < 296 → turns input m ≡ output input m

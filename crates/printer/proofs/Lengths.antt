@@ -7,14 +7,15 @@ use lib.Dec.{eqb}
 use lib.ListN.{length, take, length-append, length-take}
 use Rattle.rfc7693.specs.Rfc7693.{blake2s}
 use Rattle.cdi.specs.Cdi.{cdiOf}
-use Rattle.head.specs.Answers.{Report, refused, continues, stopped, started, Outcome}
-use Rattle.head.specs.Machine.{starting}
-use Rattle.head.proofs.Ways.{by-step}
+use Rattle.head.specs.Answers.{Report, refused, continues, whole, stopped, started, Outcome}
+use Rattle.head.specs.Machine.{gathered, starting, acted}
+use Rattle.head.proofs.Ranges.{by-test}
+use Rattle.head.proofs.Ways.{by-act}
 use Rattle.head.specs.declared.State.{State}
 use Rattle.text.specs.Text.{hexOf, decimalOf}
 use Rattle.text.proofs.Proved.{texts}
 use Rattle.printer.specs.Lines.{replyLine, waitingLine, errorLine, endLine}
-use Rattle.printer.specs.Output.{afterBegin, afterReceive, replyText, callText}
+use Rattle.printer.specs.Output.{afterBegin, completes, afterByte, replyText, callText}
 
 -- ---- the lines
 
@@ -31,6 +32,7 @@ error-short n = let l = number-short n in omega arith
 end-short : (r : Report) (cdi : List ℕ) → length cdi ≤ 32 → length (endLine r cdi) ≤ 88
 end-short (refused k) cdi h = let l = number-short k in omega arith
 end-short continues cdi h = omega arith
+end-short whole cdi h = omega arith
 end-short (stopped k) cdi h = let l = number-short k in omega arith
 end-short (started address n) cdi h =
     rw (length-append (decimalOf n ++ 32 ∷ [] ++ hexOf cdi) (10 ∷ []), length-append (decimalOf n ++ 32 ∷ []) (hexOf cdi), length-append (decimalOf n) (32 ∷ []))
@@ -59,16 +61,20 @@ pub begin-short : (front : List ℕ) (m : ℕ) → Short (afterBegin front m)
 unfolding afterBegin
 begin-short front m = record { reply = omega arith; cdi = omega arith }
 
-pub receive-short : (s : State) (uds ram : List ℕ) (b : ℕ) → Short (afterReceive s uds ram b)
-unfolding afterReceive starting cdiOf blake2s
-receive-short s uds ram b =
-    by-step s b _ ram uds Short
+act-short : (s : State) (room ram uds : List ℕ) → Short (acted s room ram uds)
+unfolding starting cdiOf blake2s
+act-short s room ram uds =
+    by-act s room ram uds Short
     (record {
       refused = λ k e n. record { reply = omega arith; cdi = omega arith };
-      more = λ i o. record { reply = omega arith; cdi = omega arith };
       halt = λ k n. record { reply = omega arith; cdi = omega arith };
       reply = λ r f. let l = f .0 in record { reply = omega arith; cdi = omega arith };
       progress = λ r f p ram1 o v y. let l = f .0 in record { reply = omega arith; cdi = omega arith };
-      start = λ i d ram1 y. record { reply = omega arith; cdi = rw length-take (omega arith) };
-      fail = λ i d ram1 y. record { reply = omega arith; cdi = omega arith };
+      start = λ d ram1 y. record { reply = omega arith; cdi = rw length-take (omega arith) };
+      fail = λ d ram1 y. record { reply = omega arith; cdi = omega arith };
     })
+
+pub byte-short : (s : State) (uds ram : List ℕ) (b : ℕ) → Short (afterByte s uds ram b)
+unfolding afterByte
+byte-short s uds ram b =
+    by-test Short (completes (gathered s b .report)) _ _ (λ e. act-short _ _ ram uds) (λ e. record { reply = omega arith; cdi = omega arith })

@@ -9,14 +9,14 @@ use Rattle.protocol.specs.Commands.{loadIn}
 use Rattle.protocol.specs.Replies.{replyHeader, putIn, nameReply, udiReply, loadReply, digestReply}
 use Rattle.head.specs.State.{inRange, ended}
 use Rattle.head.specs.Begin.{beginning}
-use Rattle.head.specs.Machine.{gathered, loadAnswer, afterLoad, starting, finishedWith, actedBlock, acted, refusal, processed, step}
+use Rattle.head.specs.Machine.{byteStep, gatherRefusal, gathered, loadAnswer, afterLoad, starting, finishedWith, actedBlock, actRefusal, acted}
 use Rattle.text.specs.Text.{decimalOf}
-use Rattle.printer.specs.Output.{afterBegin, afterReceive, output}
+use Rattle.printer.specs.Output.{afterBegin, afterByte, output}
 use Rattle.printer.specs.Theorems.{Printer}
 use Rattle.printer.proofs.Folds.{folds}
 
 pub printer : Printer
-unfolding output decimalOf afterBegin afterReceive beginning step refusal processed gathered acted inRange ended putIn recordAt word headerAt nameReply udiReply replyHeader headerByte loadIn loadAnswer loadReply afterLoad actedBlock finishedWith starting digestReply cdiString cdiOf rotr words firstBytes iv sigma added xorRotated G workVector round rounds F input blockAt blockCount leading compressions compressed initial blake2s
+unfolding output decimalOf afterBegin afterByte beginning gatherRefusal gathered byteStep actRefusal acted inRange ended putIn recordAt word headerAt nameReply udiReply replyHeader headerByte loadIn loadAnswer loadReply afterLoad actedBlock finishedWith starting digestReply cdiString cdiOf rotr words firstBytes iv sigma added xorRotated G workVector round rounds F input blockAt blockCount leading compressions compressed initial blake2s
 printer = record {
   folds = folds;
   example = refl;

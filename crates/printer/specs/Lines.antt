@@ -2,7 +2,7 @@
 use Prim.Native.Nat.{ℕ}
 use mathlib.Core.List.{List, [], _++_}
 use Rattle.text.specs.Text.{ascii, hexOf, decimalOf}
-use Rattle.head.specs.Answers.{Report, refused, continues, stopped, started}
+use Rattle.head.specs.Answers.{Report, refused, continues, whole, stopped, started}
 
 -- `R `, the reply's bytes
 abbrev pub replyLine : List ℕ → List ℕ
@@ -24,10 +24,11 @@ stopLine k = ascii "F " ++ decimalOf k ++ ascii "\n"
 abbrev pub errorLine : ℕ → List ℕ
 errorLine k = ascii "E " ++ decimalOf k ++ ascii "\n"
 
--- the last line, by what a call reports: none while the session goes on. Document 01 has no line for a refused call, and `headlog` makes
--- none
+-- the last line, by what a call reports: none while the session goes on, and none for `whole`, since such a frame is acted on before anything
+-- is printed. Document 01 has no line for a refused call, and `headlog` makes none
 abbrev pub endLine : Report → List ℕ → List ℕ
 endLine (refused k) cdi = errorLine k
 endLine continues cdi = []
+endLine whole cdi = []
 endLine (stopped k) cdi = stopLine k
 endLine (started address n) cdi = startLine n cdi

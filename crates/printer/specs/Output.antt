@@ -7,9 +7,9 @@ use lib.Dec.{eqb, ltb}
 use lib.ListN.{length, take, drop}
 use Rattle.endian.specs.Lists.{each, zeros}
 use Rattle.endian.specs.Endian.{word}
-use Rattle.head.specs.Answers.{Report, refused, continues, stopped, started, Outcome}
+use Rattle.head.specs.Answers.{Report, refused, continues, whole, stopped, started, Outcome}
 use Rattle.head.specs.Begin.{beginning}
-use Rattle.head.specs.Machine.{plain, step}
+use Rattle.head.specs.Machine.{gathered, plain, acted}
 use Rattle.head.specs.declared.State.{State}
 use Rattle.printer.specs.Lines.{replyLine, waitingLine, errorLine, endLine}
 
@@ -23,9 +23,19 @@ afterBegin front m =
     let b = beginning (take 256 front) (drop 288 front) m in
     plain (b .report) 0 (b .state) [] (zeros m) (wordsIn front)
 
--- a byte is received with a reply room of 129 zeros
-unfoldable pub afterReceive : State → List ℕ → List ℕ → ℕ → Outcome
-afterReceive s uds ram b = step s b (zeros 129) ram uds
+-- whether a gathered byte makes a frame whole
+abbrev pub completes : Report → Bool
+completes (refused k) = false
+completes continues = false
+completes whole = true
+completes (stopped k) = false
+completes (started address n) = false
+
+-- a byte is gathered; a frame that is whole with it is acted on at once, with a reply room of 129 zeros, and otherwise there is no reply
+unfoldable pub afterByte : State → List ℕ → List ℕ → ℕ → Outcome
+afterByte s uds ram b =
+    let g = gathered s b in
+    cond (completes (g .report)) (acted (g .state) (zeros 129) ram uds) (plain (g .report) 0 (g .state) [] ram uds)
 
 -- the line of a reply of n bytes; none for no reply
 abbrev pub replyText : List ℕ → ℕ → List ℕ
@@ -35,10 +45,11 @@ replyText room n = cond (eqb n 0) [] (replyLine (take n room))
 abbrev pub callText : Outcome → List ℕ
 callText o = replyText (o .room) (o .reply) ++ endLine (o .report) (o .cdi)
 
--- a session that does not go on is over
+-- a session that does not go on is over; no outcome here reports `whole`
 abbrev pub isOver : Report → Bool
 isOver (refused k) = true
 isOver continues = false
+isOver whole = false
 isOver (stopped k) = true
 isOver (started address n) = true
 
@@ -57,7 +68,7 @@ abbrev pub outputFrom : Outcome → ℕ → List ℕ → Output
 outputFrom o n [] = record { printed = callText o ++ cond (isOver (o .report)) [] (waitingLine n); read = 296 + n }
 outputFrom o n (b ∷ bytes) =
     cond (isOver (o .report)) (record { printed = callText o; read = 296 + n })
-    (behind (callText o) (outputFrom (afterReceive (o .state) (o .uds) (o .ram) b) (n + 1) bytes))
+    (behind (callText o) (outputFrom (afterByte (o .state) (o .uds) (o .ram) b) (n + 1) bytes))
 
 -- the output of a head with m bytes of RAM; an input under 296 bytes prints only `E 1`
 unfoldable pub output : List ℕ → ℕ → Output

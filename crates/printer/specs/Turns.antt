@@ -9,7 +9,7 @@ use Rattle.endian.specs.Lists.{zeros, padded}
 use Rattle.head.specs.Answers.{Outcome}
 use Rattle.text.specs.Text.{textOf}
 use Rattle.printer.specs.Lines.{waitingLine, errorLine}
-use Rattle.printer.specs.Output.{afterBegin, afterReceive, callText, isOver, Output, behind}
+use Rattle.printer.specs.Output.{afterBegin, afterByte, callText, isOver, Output, behind}
 use Rattle.printer.specs.declared.turns.Session.{Session}
 use Rattle.printer.specs.declared.turns.Next.{Next}
 use Rattle.printer.specs.declared.turns.Next.the-variants.{Byte, End}
@@ -44,12 +44,12 @@ isFull s = eqb (s .received) (2 ^ 64 - 1)
 -- every other turn
 abbrev pub turned : Session → Next → List ℕ → Turn
 turned s End ram = waited s
-turned s (Byte b) ram = cond (isFull s) (waited s) (turnOf (s .received + 1) (afterReceive (s .state) (s .words) ram b))
+turned s (Byte b) ram = cond (isFull s) (waited s) (turnOf (s .received + 1) (afterByte (s .state) (s .words) ram b))
 
 -- and what RAM then holds
 abbrev pub ramAfter : Session → Next → List ℕ → List ℕ
 ramAfter s End ram = ram
-ramAfter s (Byte b) ram = cond (isFull s) ram (afterReceive (s .state) (s .words) ram b .ram)
+ramAfter s (Byte b) ram = cond (isFull s) ram (afterByte (s .state) (s .words) ram b .ram)
 
 -- ---- the loop of `headlog`
 

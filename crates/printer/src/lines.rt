@@ -44,6 +44,7 @@ pub fn end_line(t: Text, answer: Answer, cdi: [u8; 32]) -> Text
 {
     match answer {
         Answer::Continue => t,
+        Answer::Whole => t,
         Answer::Refused(why) => numbered(t, b'E', loader::refusal_number(why) as u64),
         Answer::Stopped(why) => numbered(t, b'F', loader::stop_number(why) as u64),
         Answer::Started { address: _, size } => start_line(t, size, cdi),

@@ -1,9 +1,12 @@
 // A session from byte to byte, and what is printed of it.
 ghost use mathlib.Core.Path.{_≡_};
+ghost use mathlib.Core.List.{[]};
+ghost use Rattle.endian.specs.Lists.{zeros};
 ghost use Rattle.head.specs.Answers.{reportOf};
+ghost use Rattle.head.specs.Machine.{plain, acted};
 ghost use Rattle.text.specs.Text.{textOf};
 ghost use Rattle.printer.specs.Output.{replyText, isOver};
-ghost use Rattle.printer.specs.Turns.{beginTurn, opening, turned, ramAfter, waited};
+ghost use Rattle.printer.specs.Turns.{turnOf, beginTurn, opening, turned, ramAfter, waited};
 ghost use Rattle.printer.specs.declared.turns.Next.the-variants as next;
 use super::input;
 use super::lines;
@@ -57,18 +60,26 @@ fn begin(front: [u8; 296], ram_len: usize) -> Turn
     let begun = input::begin(front, ram_len);
     let answer = begun.answer;
     let state = begun.state;
+    let session = Session {
+        state,
+        words,
+        received: 0,
+    };
+    without_reply(session, answer)
+}
+
+// The turn of a call that has no reply.
+fn without_reply(session: Session, answer: Answer) -> Turn
+    ensures { λ r. ⌜ r ≡ turnOf (session .received) (plain (reportOf answer) 0 (session .state) [] [] (session .words)) ⌝ }
+{
     Turn {
-        session: Session {
-            state,
-            words,
-            received: 0,
-        },
+        session,
         text: lines::end_line(text::empty(), answer, [0; 32]),
         over: is_over(answer),
     }
 }
 
-// Every other turn, with the RAM that the turn before left. Of a session from `open`, a byte is refused only where RAM has another length
+// Every other turn, with the RAM that the turn before left. Of a session from `open`, a call is refused only where RAM has another length
 // or the session is over; it is then printed as `E` and the number.
 pub fn advance(s: Session, next: Next, ram: &mut [u8]) -> Turn
     ensures turn { λ r. ⌜ r ≡ turned s next (now (ram .entry)) ⌝ }
@@ -91,7 +102,8 @@ fn wait(s: Session) -> Turn
     }
 }
 
-// Receives a byte. Nothing says that an input ends, and the count does at 2^64 - 1: there the session ends as if the input did.
+// Receives a byte: it is gathered, and a frame that is whole with it is acted on. Nothing says that an input ends, and the count does at
+// 2^64 - 1: there the session ends as if the input did.
 fn receive(s: Session, byte: u8, ram: &mut [u8]) -> Turn
     ensures turn { λ r. ⌜ r ≡ turned s (next.Byte byte) (now (ram .entry)) ⌝ }
     ensures ram { λ r. ⌜ now (ram .exit) ≡ ramAfter s (next.Byte byte) (now (ram .entry)) ⌝ }
@@ -99,18 +111,37 @@ fn receive(s: Session, byte: u8, ram: &mut [u8]) -> Turn
     if s.received == u64::MAX {
         return wait(s);
     }
-    let state = s.state;
+    let g = loader::gather(s.state, byte);
+    let answer = g.answer;
+    let state = g.state;
+    let words = s.words;
+    let session = Session {
+        state,
+        words,
+        received: s.received + 1,
+    };
+    let Answer::Whole = answer else {
+        return without_reply(session, answer);
+    };
+    act(session, ram)
+}
+
+// Acts on the frame that is whole.
+fn act(s: Session, ram: &mut [u8]) -> Turn
+    ensures turn { λ r. ⌜ r ≡ turnOf (s .received) (acted (s .state) (zeros 129) (now (ram .entry)) (s .words)) ⌝ }
+    ensures ram { λ r. ⌜ now (ram .exit) ≡ acted (s .state) (zeros 129) (now (ram .entry)) (s .words) .ram ⌝ }
+{
     let mut words = s.words;
     let mut room = [0u8; 129];
-    let r = loader::receive(state, byte, &mut room, ram, &mut words);
+    let r = loader::act(s.state, &mut room, ram, &mut words);
     let answer = r.answer;
-    let next = r.state;
+    let state = r.state;
     let cdi = r.cdi;
     Turn {
         session: Session {
-            state: next,
+            state,
             words,
-            received: s.received + 1,
+            received: s.received,
         },
         text: lines::end_line(reply(room, r.reply), answer, cdi),
         over: is_over(answer),
@@ -132,6 +163,7 @@ fn is_over(answer: Answer) -> bool
 {
     match answer {
         Answer::Continue => false,
+        Answer::Whole => false,
         Answer::Refused(_) => true,
         Answer::Stopped(_) => true,
         Answer::Started { .. } => true,

@@ -6,7 +6,7 @@ use mathlib.Core.Path.{_≡_}
 use mathlib.Core.List.{List}
 use lib.ListN.{length}
 use Rattle.endian.proofs.Cases.{impossible}
-use Rattle.printer.specs.Output.{afterReceive, isOver}
+use Rattle.printer.specs.Output.{afterByte, isOver}
 use Rattle.printer.specs.Turns.{turnOf, isFull, waited, turned}
 use Rattle.printer.specs.declared.turns.Session.{Session}
 use Rattle.printer.specs.declared.turns.Next.{Next}
@@ -27,9 +27,9 @@ fewer s (Byte b) ram h = go (isFull s)
     either true = omega arith
     either false = omega arith
 
-    go : (t : Bool) → left (cond t (waited s) (turnOf (s .received + 1) (afterReceive (s .state) (s .words) ram b))) < 2 ^ 64 - s .received
+    go : (t : Bool) → left (cond t (waited s) (turnOf (s .received + 1) (afterByte (s .state) (s .words) ram b))) < 2 ^ 64 - s .received
     go true = omega arith
-    go false = either (isOver (afterReceive (s .state) (s .words) ram b .report))
+    go false = either (isOver (afterByte (s .state) (s .words) ram b .report))
 
 not-over : (k n : ℕ) (o : Bool) → not o ≡ true → k < n → k < cond o 0 n
 not-over k n true e h = impossible cc

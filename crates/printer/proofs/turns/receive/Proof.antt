@@ -1,33 +1,47 @@
--- What the call settles is the turn (`turn-as`).
+-- Whether the byte makes a frame whole decides which call settles the turn.
 use Prim.Native.Nat.{_-_, _^_}
-use mathlib.Core.Path.{ap}
-use Rattle.head.specs.Answers.{Outcome}
-use Rattle.printer.specs.Output.{afterReceive}
-use Rattle.printer.proofs.Outcomes.{turn-as}
-use Rattle.printer.proofs.Texts.{with-line}
+use mathlib.Core.Bool.{false}
+use mathlib.Core.Path.{_≡_, refl}
+use mathlib.Core.List.{[], _∷_}
+use denote.Enum.Declared.{tagOf}
+use types.Run.{OneOf, miss}
+use Rattle.head.proofs.Answer.{the-type}
+use Rattle.head.specs.Answers.{reportOf}
+use Rattle.head.specs.declared.Answer.{Answer}
+use Rattle.head.specs.declared.Answer.the-variants.{Refused, Continue, Whole, Stopped, Started}
+use Rattle.printer.specs.Output.{completes, afterByte}
 use borrow.Author.Needs.{needs}
 use borrow.Author.Tests.{eq-eqb, ne-eqb}
 use Rattle.printer.proofs.turns.receive.Statement.{statement}
 use Rattle.printer.proofs.turns.receive.Tie as tie
 
+other : (a : Answer) → OneOf (0 ∷ 1 ∷ 3 ∷ 4 ∷ []) (tagOf the-type a) → completes (reportOf a) ≡ false
+other (Refused r) t = refl
+other Continue t = refl
+other Whole t = absurd (miss (0 ∷ 1 ∷ 3 ∷ 4 ∷ []) 2 tt t)
+other (Stopped s) t = refl
+other (Started address n) t = refl
+
 returns : tie.Need-returns
 returns c = let e = eq-eqb _ (2 ^ 64 - 1) (c .before .if1 .taken) in (rw e (c .wait .ensures), rw e)
 
--- the byte is received
-abbrev received : tie.After-is-over → tie.After-receive
-received c = c .before .before .before .before .before .before .before .before .before .before
-
--- the count is not full
-abbrev counts : tie.After-receive → tie.Else1
-counts k = k .before .before .before .before .before .before
-
 returns-2 : tie.Need-returns-2
-unfolding afterReceive
+unfolding afterByte
 returns-2 c =
-    let k = received c in
-    let n = ne-eqb _ (2 ^ 64 - 1) (counts k .if1 .left) in
-    let e = with-line _ _ _ _ (c .before .before .reply .ensures) (c .before .end-line .ensures) in
-    (rw n (turn-as (k .receive .result) _ _ _ _ _ _ _ (k .receive .ensures) e (c .is-over .ensures)), rw n (ap (λ (o : Outcome). o .ram) (k .receive .ensures)))
+    let m = c .before in
+    let g = m .before .before .before .before in
+    let n = ne-eqb _ (2 ^ 64 - 1) (g .before .if1 .left) in
+    let o = other (g .gather .result .answer) (m .match .keys2) in
+    (rw (n, ← (g .gather .ensures), o) (c .without-reply .ensures), rw (n, ← (g .gather .ensures), o))
+
+returns-3 : tie.Need-returns-3
+unfolding afterByte
+returns-3 c =
+    let k : tie.After-act = c .before .before in
+    let t = k .before .before in
+    let g = t .before .before .before .before .before in
+    let n = ne-eqb _ (2 ^ 64 - 1) (g .before .if1 .left) in
+    rw (n, ← (g .gather .ensures), t .enum-told .given .1) (k .act .ensures)
 
 pub receive-spec : {M : Type 1} → statement M
 receive-spec =
@@ -35,12 +49,11 @@ receive-spec =
     (tie.spec
     (λ c κs. search needs)
     returns
+    (λ c κs. search needs)
     (λ c. search needs)
     (λ c. search needs)
     (λ c κs. search needs)
-    (λ c. search needs)
-    (λ c κs. search needs)
-    (λ c κs. search needs)
+    returns-2
     (λ c κs. search needs)
     (λ c. search needs)
-    returns-2)
+    returns-3)
