@@ -16,7 +16,7 @@ use Rattle.head.specs.declared.Refusal.{Refusal}
 use Rattle.head.specs.declared.Stop.{Stop}
 use Rattle.head.specs.declared.Stop.the-variants.{UnknownType, NoFlash, HeaderBit, Command, BodyLength, Digest}
 use Rattle.head.specs.declared.Answer.{Answer}
-use Rattle.head.specs.declared.Answer.the-variants.{Refused, Continue, Stopped, Started}
+use Rattle.head.specs.declared.Answer.the-variants.{Refused, Continue, Whole, Stopped, Started}
 use Rattle.display.specs.Shown.{loadingLine, blockText, allBlocks, startLine, wordsOf, stopLine, refusalLine}
 use Rattle.display.specs.Shown.{beginText, progressText, beforeStop, receivedText}
 use Rattle.display.specs.Theorems.{Display}
@@ -91,6 +91,7 @@ before-long terminal p s = go (eqb (stopNumber s) 25) terminal (eqb (p .block) 0
 
 begin-fits : (a : Answer) → length (beginText a) ≤ 512
 begin-fits Continue = omega arith
+begin-fits Whole = omega arith
 begin-fits (Refused r) = omega (arith, refusal-long r)
 begin-fits (Stopped s) = omega (arith, stop-long s)
 begin-fits (Started address n) = omega arith
@@ -98,6 +99,7 @@ begin-fits (Started address n) = omega arith
 fits : (terminal : Bool) (p : Progress) (a : Answer) (q : Progress) (cdi : List ℕ) → length cdi ≡ 32
     → length (receivedText terminal p a q cdi) ≤ 512
 fits terminal p Continue q cdi h = omega (arith, progress-long terminal p q)
+fits terminal p Whole q cdi h = omega arith
 fits terminal p (Refused r) q cdi h = omega (arith, refusal-long r)
 fits terminal p (Stopped s) q cdi h =
     both (beforeStop terminal p s) (stopLine s) 512 (omega (arith, before-long terminal p s, stop-long s))

@@ -11,7 +11,7 @@ use Rattle.head.specs.declared.Refusal.{Refusal}
 use Rattle.head.specs.declared.Stop.{Stop}
 use Rattle.head.specs.declared.Stop.the-variants.{UnknownType, NoFlash, HeaderBit, Command, BodyLength, Digest}
 use Rattle.head.specs.declared.Answer.{Answer}
-use Rattle.head.specs.declared.Answer.the-variants.{Refused, Continue, Stopped, Started}
+use Rattle.head.specs.declared.Answer.the-variants.{Refused, Continue, Whole, Stopped, Started}
 use Rattle.head.specs.declared.Progress.{Progress}
 
 -- a load of n bytes was taken
@@ -46,9 +46,10 @@ stopLine s = ascii "stopped " ++ decimalOf (stopNumber s) ++ ascii ": " ++ words
 abbrev pub refusalLine : Refusal → List ℕ
 refusalLine r = ascii "refused " ++ decimalOf (refusalNumber r) ++ ascii "\n"
 
--- begin starts no program, so there is no line for that
+-- begin starts no program and makes no frame whole, so there is no line for these
 abbrev pub beginText : Answer → List ℕ
 beginText Continue = ascii "waiting\n"
+beginText Whole = []
 beginText (Refused r) = refusalLine r
 beginText (Stopped s) = stopLine s
 beginText (Started address n) = []
@@ -71,9 +72,11 @@ beforeStop terminal before s =
     (allBlocks terminal (blocksFor (before .size)))
     (cond terminal (lineEnd (before .block)) [])
 
--- what a received byte shows: by the progress before it, the answer, the progress after it, and the CDI
+-- what a received byte shows: by the progress before it, the answer, the progress after it, and the CDI. A frame that is whole with it shows
+-- nothing until it is acted on
 abbrev pub receivedText : Bool → Progress → Answer → Progress → List ℕ → List ℕ
 receivedText terminal before Continue after cdi = progressText terminal before after
+receivedText terminal before Whole after cdi = []
 receivedText terminal before (Refused r) after cdi = refusalLine r
 receivedText terminal before (Stopped s) after cdi = beforeStop terminal before s ++ stopLine s
 receivedText terminal before (Started address n) after cdi = allBlocks terminal (blocksFor (before .size)) ++ startLine n cdi
@@ -81,6 +84,7 @@ receivedText terminal before (Started address n) after cdi = allBlocks terminal 
 -- the exit status of a simulation: 0 for a start, the number of a stop, and 1 if it ended with neither
 abbrev pub exitNumber : Answer → ℕ
 exitNumber Continue = 1
+exitNumber Whole = 1
 exitNumber (Refused r) = 1
 exitNumber (Stopped s) = stopNumber s
 exitNumber (Started address n) = 0

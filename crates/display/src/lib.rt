@@ -17,6 +17,7 @@ pub fn begun(answer: Answer) -> Text
 {
     match answer {
         Answer::Continue => text::put_all(text::empty(), b"waiting\n"),
+        Answer::Whole => text::empty(),
         Answer::Refused(why) => refusal_line(why),
         Answer::Stopped(why) => stop_line(text::empty(), why),
         Answer::Started {
@@ -26,7 +27,8 @@ pub fn begun(answer: Answer) -> Text
     }
 }
 
-// What is shown of a received byte: by how far the load was before it and is after it, the answer, and the CDI of a start.
+// What is shown of a received byte: by how far the load was before it and is after it, the answer, and the CDI of a start. Where a frame is
+// whole with the byte, the answer to show is the one of acting on it.
 pub fn received(
     terminal: bool,
     before: Progress,
@@ -38,6 +40,7 @@ pub fn received(
 {
     match answer {
         Answer::Continue => progress_text(terminal, before, after),
+        Answer::Whole => text::empty(),
         Answer::Refused(why) => refusal_line(why),
         Answer::Stopped(why) => stop_line(before_stop(terminal, before, why), why),
         Answer::Started { address: _, size } => start_line(
@@ -54,6 +57,7 @@ pub fn exit_number(answer: Answer) -> u8
 {
     match answer {
         Answer::Continue => 1,
+        Answer::Whole => 1,
         Answer::Refused(_) => 1,
         Answer::Stopped(why) => head::stop_number(why),
         Answer::Started {

@@ -52,7 +52,7 @@ fn serve(begun: Head, terminal: bool, ram: &mut [u8]) {
     io::print_decimal(3, display::exit_number(answer) as u64);
 }
 
-// Receives one byte: its reply is sent, and then it is shown. A read that fails is an end.
+// Receives one byte: it is gathered and shown, or a frame that is whole with it is acted on. A read that fails is an end.
 fn turn(head: Head, terminal: bool, ram: &mut [u8]) -> Head {
     let mut byte = [0u8; 1];
     if libc::read(STDIN_FILENO, &mut byte) != 1 {
@@ -60,30 +60,58 @@ fn turn(head: Head, terminal: bool, ram: &mut [u8]) -> Head {
         end.over = true;
         return end;
     }
-    let state = head.state;
-    let before = state.progress;
-    let mut words = head.words;
-    let mut room = [0u8; 129];
-    let r = loader::receive(state, byte[0], &mut room, ram, &mut words);
-    send(room, r.reply);
-    let answer = r.answer;
-    let next = r.state;
-    let cdi = r.cdi;
-    text::write(
-        STDERR_FILENO,
-        display::received(terminal, before, answer, next.progress, cdi),
-    );
-    Head {
-        state: next,
+    let before = head.state;
+    let words = head.words;
+    let g = loader::gather(before, byte[0]);
+    let answer = g.answer;
+    let state = g.state;
+    let next = Head {
+        state,
         words,
         answer,
         over: is_over(answer),
-    }
+    };
+    let Answer::Whole = answer else {
+        show(terminal, before, next, [0; 32]);
+        return next;
+    };
+    act(next, terminal, ram)
+}
+
+// Acts on the frame that is whole: its reply is sent, and then it is shown.
+fn act(head: Head, terminal: bool, ram: &mut [u8]) -> Head {
+    let before = head.state;
+    let mut words = head.words;
+    let mut room = [0u8; 129];
+    let r = loader::act(before, &mut room, ram, &mut words);
+    send(room, r.reply);
+    let answer = r.answer;
+    let state = r.state;
+    let cdi = r.cdi;
+    let next = Head {
+        state,
+        words,
+        answer,
+        over: is_over(answer),
+    };
+    show(terminal, before, next, cdi);
+    next
+}
+
+// Shows what came of a byte: the state before it, and the head after it.
+fn show(terminal: bool, before: State, after: Head, cdi: [u8; 32]) {
+    let answer = after.answer;
+    let state = after.state;
+    text::write(
+        STDERR_FILENO,
+        display::received(terminal, before.progress, answer, state.progress, cdi),
+    );
 }
 
 fn is_over(answer: Answer) -> bool {
     match answer {
         Answer::Continue => false,
+        Answer::Whole => false,
         Answer::Refused(_) => true,
         Answer::Stopped(_) => true,
         Answer::Started {
