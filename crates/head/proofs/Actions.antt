@@ -4,7 +4,7 @@ use mathlib.Core.Path.{_≡_, subst}
 use mathlib.Core.List.{List}
 use borrow.Author.Tests.{ne-eqb}
 use types.Run.{OneOf}
-use Rattle.head.specs.Machine.{halts, requestWaiting, requestLoading}
+use Rattle.head.specs.Act.{halts, requestWaiting, requestLoading}
 
 pub not-waiting : (c n : ℕ) → (c ≡ 1 → ⊥) → (c ≡ 8 → ⊥) → (c ≡ 3 → ⊥) → halts 23 ≡ requestWaiting c n
 not-waiting c n p q r = simp (ne-eqb c 1 p, ne-eqb c 8 q, ne-eqb c 3 r)

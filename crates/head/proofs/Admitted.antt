@@ -9,7 +9,8 @@ use lib.ListN.{length}
 use borrow.Author.Tests.{ltb-false, eqb-true, not-false}
 use Rattle.head.specs.State.{isWhole, inRange, live}
 use Rattle.head.specs.Answers.{refused, refusalNumber, Gathering}
-use Rattle.head.specs.Machine.{byteStep, gatherRefusal, afterStep, gathered, requestOf, performed, actRefusal, acted}
+use Rattle.head.specs.Gather.{byteStep, gatherRefusal, afterStep, gathered}
+use Rattle.head.specs.Act.{requestOf, performed, actRefusal, acted}
 use Rattle.head.specs.declared.Refusal.{Refusal}
 use Rattle.head.specs.declared.Refusal.the-variants.{StateRange, Ended, ReplyRoom, RamLength, SecretLength, RecordLength, RamSize, OutOfTurn}
 use Rattle.head.specs.declared.State.{State}

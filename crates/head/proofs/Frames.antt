@@ -11,7 +11,7 @@ use lib.Seq.{drop-cons, paste, paste-zero, paste-suc}
 use borrow.Author.Tests.{eq-eqb, ne-eqb}
 use Rattle.framing.specs.Header.{good, headerAt, bodyLen}
 use Rattle.head.specs.State.{idle}
-use Rattle.head.specs.Machine.{Step, taken, withByte, byteStep, gathered}
+use Rattle.head.specs.Gather.{Step, taken, withByte, byteStep, gathered}
 use Rattle.head.specs.Theorems.{stepsOn}
 use Rattle.framing.proofs.Headers.{body-small}
 use Rattle.head.proofs.Ranges.{length-some}

@@ -16,7 +16,8 @@ use Rattle.protocol.specs.Commands.{lengthOk}
 use Rattle.head.specs.State.{isWhole, incomingOk, progressOk, inRange, live, idle, ended}
 use Rattle.head.specs.Answers.{Report, refused, continues, whole, stopped, started, refusalNumber, stopNumber, reportOf, Gathering, Outcome}
 use Rattle.head.specs.Begin.{Beginning, ending, waitingWith, configOf, byType, beginning}
-use Rattle.head.specs.Machine.{gatherRefusal, withIncoming, gathered, starting, actRefusal, refusing, acted}
+use Rattle.head.specs.Gather.{gatherRefusal, withIncoming, gathered}
+use Rattle.head.specs.Act.{starting, actRefusal, refusing, acted}
 use Rattle.head.specs.Theorems.{HeadTheorems, withUds, withCdi, refusalDue}
 use Rattle.head.proofs.Ranges.{by-test, range-facts}
 use Rattle.head.proofs.Admitted.{act-admitted}

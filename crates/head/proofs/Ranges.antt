@@ -10,7 +10,7 @@ use Rattle.framing.specs.Header.{Reading, good, headerAt, lengthOf, bodyLen}
 use Rattle.framing.proofs.Headers.{by-bits, body-small}
 use Rattle.protocol.specs.Commands.{lengthOk, blocksFor, placeOf, countIn}
 use Rattle.head.specs.State.{isWhole, incomingOk, loadingOk, progressIn, progressOk, inRange}
-use Rattle.head.specs.Machine.{asksName, asksUdi, givesLoad, givesBlock, halts, requestIn, requestWaiting}
+use Rattle.head.specs.Act.{asksName, asksUdi, givesLoad, givesBlock, halts, requestIn, requestWaiting}
 use Rattle.head.specs.declared.Phase.{Phase}
 use Rattle.head.specs.declared.Phase.the-variants.{Waiting, Loading, Started, Stopped}
 use Rattle.head.specs.declared.Incoming.{Incoming}

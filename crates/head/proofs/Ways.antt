@@ -19,7 +19,8 @@ use Rattle.protocol.proofs.Proved.{protocol}
 use Rattle.protocol.specs.declared.Reply.{Reply}
 use Rattle.head.specs.State.{isWhole, incomingOk, loadingOk, progressIn, progressOk, live, idle, ended}
 use Rattle.head.specs.Answers.{refused, stopped, Gathering, Outcome}
-use Rattle.head.specs.Machine.{Step, taken, bad, opened, withByte, continued, byteStep, gatherRefusal, afterStep, gathered, Request, asksName, asksUdi, givesLoad, givesBlock, halts, requestIn, frameIn, requestOf, plain, stopping, replying, between, loadOf, takes, loadAnswer, loaded, afterLoad, storedIn, nextBlock, allowed, starting, finishedWith, actedBlock, performed, actRefusal, refusing, acted}
+use Rattle.head.specs.Gather.{Step, taken, bad, opened, withByte, continued, byteStep, gatherRefusal, afterStep, gathered}
+use Rattle.head.specs.Act.{Request, asksName, asksUdi, givesLoad, givesBlock, halts, requestIn, frameIn, requestOf, plain, stopping, replying, between, loadOf, takes, loadAnswer, loaded, afterLoad, storedIn, nextBlock, allowed, starting, finishedWith, actedBlock, performed, actRefusal, refusing, acted}
 use Rattle.head.specs.Theorems.{SameButBlock}
 use Rattle.head.proofs.Ranges.{by-test, length-some, incoming-got, Loaded, loading-facts, block-within, no-block, block-loading, range-facts}
 use Rattle.head.proofs.Admitted.{gather-admitted, act-admitted}

@@ -1,5 +1,6 @@
 -- What a call reports: document 01, "Numbers of refused calls and of stops", and 47 of change request 8.
 use Prim.Native.Nat.{ℕ}
+use mathlib.Core.Bool.{Bool, true, false}
 use mathlib.Core.List.{List}
 use Rattle.head.specs.declared.Refusal.{Refusal}
 use Rattle.head.specs.declared.Refusal.the-variants.{StateRange, Ended, ReplyRoom, RamLength, SecretLength, RecordLength, RamSize, OutOfTurn}
@@ -49,6 +50,14 @@ pub data Report : Type 0 where
   stopped : ℕ → Report
   -- the program's address and size
   started : ℕ → ℕ → Report
+
+-- a frame is whole
+abbrev pub reportsWhole : Report → Bool
+reportsWhole (refused k) = false
+reportsWhole continues = false
+reportsWhole whole = true
+reportsWhole (stopped k) = false
+reportsWhole (started address size) = false
 
 abbrev pub reportOf : Answer → Report
 reportOf (Refused r) = refused (refusalNumber r)

@@ -13,7 +13,7 @@ use Rattle.protocol.specs.declared.Load.{Load}
 use Rattle.record.specs.Record.{recordAt}
 use Rattle.cdi.specs.Theorems.{Strings}
 use Rattle.head.specs.State.{idle, ended}
-use Rattle.head.specs.Machine.{loaded}
+use Rattle.head.specs.Act.{loaded}
 use Rattle.head.specs.declared.Phase.{Phase}
 
 -- a load of one byte, with a flag; its user secret is zeros

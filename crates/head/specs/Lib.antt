@@ -1,7 +1,8 @@
 pub mod State
 pub mod Answers
 pub mod Begin
-pub mod Machine
+pub mod Gather
+pub mod Act
 pub mod Steps
 pub mod Theorems
 pub mod KnownAnswers

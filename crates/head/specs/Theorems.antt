@@ -13,7 +13,8 @@ use Rattle.endian.specs.Lists.{zeros}
 use Rattle.head.specs.State.{isWhole, inRange, live, idle, ended}
 use Rattle.head.specs.Answers.{refused, continues, whole, stopped, started, reportOf, Gathering, Outcome}
 use Rattle.head.specs.Begin.{beginning}
-use Rattle.head.specs.Machine.{Step, taken, bad, byteStep, gatherRefusal, withIncoming, gathered, actRefusal, refusing, acted}
+use Rattle.head.specs.Gather.{Step, taken, bad, byteStep, gatherRefusal, withIncoming, gathered}
+use Rattle.head.specs.Act.{actRefusal, refusing, acted}
 use Rattle.head.specs.declared.Phase.the-variants as phase
 use Rattle.head.specs.declared.Incoming.{Incoming}
 use Rattle.head.specs.declared.State.{State}

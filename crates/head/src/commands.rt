@@ -1,6 +1,6 @@
 // What a whole frame asks for: document 01, the table of commands.
 ghost use mathlib.Core.Path.{_≡_};
-ghost use Rattle.head.specs.Machine.{requestWaiting, requestLoading, requestIn, requestOf};
+ghost use Rattle.head.specs.Act.{requestWaiting, requestLoading, requestIn, requestOf};
 ghost use Rattle.head.specs.Steps.{requestFor};
 use super::Action;
 use super::Phase;

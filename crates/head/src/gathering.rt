@@ -5,7 +5,7 @@ ghost use Prim.Native.Nat.{_≤_};
 ghost use Rattle.framing.specs.Header.{headerAt};
 ghost use Rattle.head.specs.State.{isWhole, incomingOk};
 ghost use Rattle.head.specs.Answers.{gatheringOf};
-ghost use Rattle.head.specs.Machine.{taken, bad, opened, inBody, byteStep, afterStep, gathered};
+ghost use Rattle.head.specs.Gather.{taken, bad, opened, inBody, byteStep, afterStep, gathered};
 use super::Admission;
 use super::Answer;
 use super::Gathered;

@@ -1,13 +1,14 @@
 // A head as a state that calls change: the types of the state and of the answers, what each call does (specs/), what is proved of that, and
 // the code that goes by the state alone, `gather` among it. `loader` has the calls that are lent memory.
-// Document 01 in the terms of specs/: State (the state and its ranges), Answers (the paper's numbers), Begin, Machine (what each call does);
-// the theorems are Theorems and KnownAnswers.
+// Document 01 in the terms of specs/: State (the state and its ranges), Answers (the paper's numbers), Begin, Gather and Act (what each call
+// does); the theorems are Theorems and KnownAnswers.
 mod commands;
 mod gathering;
 mod states;
 
 ghost use mathlib.Core.Path.{_≡_};
-ghost use Rattle.head.specs.Machine.{gatherRefusal, actRefusal};
+ghost use Rattle.head.specs.Gather.{gatherRefusal};
+ghost use Rattle.head.specs.Act.{actRefusal};
 ghost use Rattle.head.specs.Answers.{refusalNumber, stopNumber, admissionNumber};
 pub use commands::decide;
 pub use gathering::gather;
@@ -183,7 +184,7 @@ pub enum Admission {
     Refused(Refusal),
 }
 
-// The lowest refusal that applies to gathering in a state, or none.
+// The first refusal that applies to gathering in a state, or none.
 pub fn admit_gather(s: State) -> Admission
     ensures { λ r. ⌜ admissionNumber r ≡ gatherRefusal s ⌝ }
 {
@@ -199,7 +200,7 @@ pub fn admit_gather(s: State) -> Admission
     Admission::Admitted
 }
 
-// The lowest refusal that applies to acting in a state with so many bytes and words lent, or none.
+// The first refusal that applies to acting in a state with so many bytes and words lent, or none.
 pub fn admit_act(s: State, room: usize, ram: usize, uds: usize) -> Admission
     ensures { λ r. ⌜ admissionNumber r ≡ actRefusal s room ram uds ⌝ }
 {

@@ -1,6 +1,6 @@
 // The state: the range of each field (docs/STATES.md), and what it is after a start or a stop.
 ghost use mathlib.Core.Path.{_≡_};
-ghost use Rattle.head.specs.Machine.{allowed};
+ghost use Rattle.head.specs.Act.{allowed};
 ghost use Rattle.head.specs.State.{isWhole, incomingOk, waitingOk, loadingOk, progressOk, inRange, live, ended, idle};
 use super::Config;
 use super::Incoming;

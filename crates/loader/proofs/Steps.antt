@@ -12,7 +12,7 @@ use Rattle.protocol.specs.declared.Load.{Load}
 use Rattle.protocol.specs.declared.Reply.{Reply}
 use Rattle.head.specs.State.{ended}
 use Rattle.head.specs.Answers.{refusalNumber, outcome}
-use Rattle.head.specs.Machine.{frameIn, loadOf, takes, loaded, loadAnswer, afterLoad, storedIn, nextBlock, between, allowed, starting, finishedWith, finished, actedBlock, actRefusal, acted}
+use Rattle.head.specs.Act.{frameIn, loadOf, takes, loaded, loadAnswer, afterLoad, storedIn, nextBlock, between, allowed, starting, finishedWith, finished, actedBlock, actRefusal, acted}
 use Rattle.loader.specs.Steps.{plainly, Replies, frameOf}
 use Rattle.head.specs.declared.Phase.the-variants as phase
 use Rattle.head.specs.declared.Refusal.{Refusal}

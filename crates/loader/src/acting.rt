@@ -8,7 +8,7 @@ ghost use Rattle.protocol.specs.Commands.{longest};
 ghost use Rattle.protocol.specs.Replies.{nameReply, udiReply};
 ghost use Rattle.head.specs.State.{progressOk, loadingOk, ended};
 ghost use Rattle.head.specs.Answers.{outcome};
-ghost use Rattle.head.specs.Machine.{between, loaded, afterLoad, loadAnswer, nextBlock, starting, finished, actedBlock, requestOf, performed};
+ghost use Rattle.head.specs.Act.{between, loaded, afterLoad, loadAnswer, nextBlock, starting, finished, actedBlock, requestOf, performed};
 ghost use Rattle.loader.specs.Steps.{plainly, Replies, frameOf};
 use head::Acted;
 use head::Action;

@@ -7,7 +7,7 @@ mod memory;
 ghost use mathlib.Core.Path.{_≡_};
 ghost use Rattle.head.specs.Answers.{outcome};
 ghost use Rattle.head.specs.Begin.{beginningOf, beginning};
-ghost use Rattle.head.specs.Machine.{acted};
+ghost use Rattle.head.specs.Act.{acted};
 pub use head::Acted;
 use head::Admission;
 pub use head::Answer;

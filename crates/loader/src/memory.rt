@@ -8,7 +8,7 @@ ghost use Rattle.rfc7693.specs.Rfc7693.{blake2s};
 ghost use Rattle.endian.specs.Endian.{bytes};
 ghost use Rattle.protocol.specs.Commands.{longest, bytesOf, placeOf, countIn};
 ghost use Rattle.protocol.specs.Replies.{sent, putIn};
-ghost use Rattle.head.specs.Machine.{storedIn};
+ghost use Rattle.head.specs.Act.{storedIn};
 use protocol::Frame;
 use protocol::Reply;
 

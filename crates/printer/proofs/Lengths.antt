@@ -7,15 +7,16 @@ use lib.Dec.{eqb}
 use lib.ListN.{length, take, length-append, length-take}
 use Rattle.rfc7693.specs.Rfc7693.{blake2s}
 use Rattle.cdi.specs.Cdi.{cdiOf}
-use Rattle.head.specs.Answers.{Report, refused, continues, whole, stopped, started, Outcome}
-use Rattle.head.specs.Machine.{gathered, starting, acted}
+use Rattle.head.specs.Answers.{Report, refused, continues, whole, stopped, started, reportsWhole, Outcome}
+use Rattle.head.specs.Gather.{gathered}
+use Rattle.head.specs.Act.{starting, acted}
 use Rattle.head.proofs.Ranges.{by-test}
 use Rattle.head.proofs.Ways.{by-act}
 use Rattle.head.specs.declared.State.{State}
 use Rattle.text.specs.Text.{hexOf, decimalOf}
 use Rattle.text.proofs.Proved.{texts}
 use Rattle.printer.specs.Lines.{replyLine, waitingLine, errorLine, endLine}
-use Rattle.printer.specs.Output.{afterBegin, completes, afterByte, replyText, callText}
+use Rattle.printer.specs.Output.{afterBegin, afterByte, replyText, callText}
 
 -- ---- the lines
 
@@ -77,4 +78,4 @@ act-short s room ram uds =
 pub byte-short : (s : State) (uds ram : List ℕ) (b : ℕ) → Short (afterByte s uds ram b)
 unfolding afterByte
 byte-short s uds ram b =
-    by-test Short (completes (gathered s b .report)) _ _ (λ e. act-short _ _ ram uds) (λ e. record { reply = omega arith; cdi = omega arith })
+    by-test Short (reportsWhole (gathered s b .report)) _ _ (λ e. act-short _ _ ram uds) (λ e. record { reply = omega arith; cdi = omega arith })

@@ -9,7 +9,8 @@ use Rattle.protocol.specs.Commands.{loadIn}
 use Rattle.protocol.specs.Replies.{replyHeader, putIn, nameReply, udiReply, loadReply, digestReply}
 use Rattle.head.specs.State.{inRange, ended}
 use Rattle.head.specs.Begin.{beginning}
-use Rattle.head.specs.Machine.{byteStep, gatherRefusal, gathered, loadAnswer, afterLoad, starting, finishedWith, actedBlock, actRefusal, acted}
+use Rattle.head.specs.Gather.{byteStep, gatherRefusal, gathered}
+use Rattle.head.specs.Act.{loadAnswer, afterLoad, starting, finishedWith, actedBlock, actRefusal, acted}
 use Rattle.text.specs.Text.{decimalOf}
 use Rattle.printer.specs.Output.{afterBegin, afterByte, output}
 use Rattle.printer.specs.Theorems.{Printer}

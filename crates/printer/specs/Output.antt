@@ -7,9 +7,10 @@ use lib.Dec.{eqb, ltb}
 use lib.ListN.{length, take, drop}
 use Rattle.endian.specs.Lists.{each, zeros}
 use Rattle.endian.specs.Endian.{word}
-use Rattle.head.specs.Answers.{Report, refused, continues, whole, stopped, started, Outcome}
+use Rattle.head.specs.Answers.{Report, refused, continues, whole, stopped, started, reportsWhole, Outcome}
 use Rattle.head.specs.Begin.{beginning}
-use Rattle.head.specs.Machine.{gathered, plain, acted}
+use Rattle.head.specs.Gather.{gathered}
+use Rattle.head.specs.Act.{plain, acted}
 use Rattle.head.specs.declared.State.{State}
 use Rattle.printer.specs.Lines.{replyLine, waitingLine, errorLine, endLine}
 
@@ -23,19 +24,11 @@ afterBegin front m =
     let b = beginning (take 256 front) (drop 288 front) m in
     plain (b .report) 0 (b .state) [] (zeros m) (wordsIn front)
 
--- whether a gathered byte makes a frame whole
-abbrev pub completes : Report → Bool
-completes (refused k) = false
-completes continues = false
-completes whole = true
-completes (stopped k) = false
-completes (started address n) = false
-
 -- a byte is gathered; a frame that is whole with it is acted on at once, with a reply room of 129 zeros, and otherwise there is no reply
 unfoldable pub afterByte : State → List ℕ → List ℕ → ℕ → Outcome
 afterByte s uds ram b =
     let g = gathered s b in
-    cond (completes (g .report)) (acted (g .state) (zeros 129) ram uds) (plain (g .report) 0 (g .state) [] ram uds)
+    cond (reportsWhole (g .report)) (acted (g .state) (zeros 129) ram uds) (plain (g .report) 0 (g .state) [] ram uds)
 
 -- the line of a reply of n bytes; none for no reply
 abbrev pub replyText : List ℕ → ℕ → List ℕ

@@ -3,7 +3,7 @@ ghost use mathlib.Core.Path.{_≡_};
 ghost use mathlib.Core.List.{[]};
 ghost use Rattle.endian.specs.Lists.{zeros};
 ghost use Rattle.head.specs.Answers.{reportOf};
-ghost use Rattle.head.specs.Machine.{plain, acted};
+ghost use Rattle.head.specs.Act.{plain, acted};
 ghost use Rattle.text.specs.Text.{textOf};
 ghost use Rattle.printer.specs.Output.{replyText, isOver};
 ghost use Rattle.printer.specs.Turns.{turnOf, beginTurn, opening, turned, ramAfter, waited};

@@ -23,7 +23,7 @@ use Rattle.head.specs.State.{idle, ended}
 use Rattle.endian.proofs.Same.{same-refl, same-eq}
 use Rattle.head.specs.Answers.{continues, stopped, started, Outcome}
 use Rattle.head.specs.Begin.{waiting, configOf}
-use Rattle.head.specs.Machine.{actionIn, frameIn, storedIn, replying, loadAnswer, afterLoad, starting, allowed, finishedWith, actedBlock, performed, acted}
+use Rattle.head.specs.Act.{actionIn, frameIn, storedIn, replying, loadAnswer, afterLoad, starting, allowed, finishedWith, actedBlock, performed, acted}
 use Rattle.head.proofs.Ranges.{never, by-test, length-some}
 use Rattle.session.specs.Reading.{Good, forFirmware, bodyOf, QueryFrame, LoadFrame, Opens, BlockFrame, carried, sizeOf, programOf, digestOf, Allowed, chained, measuredId}
 use Rattle.session.proofs.Frames.{All-append, good-some}

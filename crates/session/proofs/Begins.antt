@@ -14,7 +14,7 @@ use Rattle.protocol.specs.Commands.{lengthOk}
 use Rattle.head.specs.State.{inRange, live, idle, ended}
 use Rattle.head.specs.Answers.{Report, refused, continues, stopped, started}
 use Rattle.head.specs.Begin.{waiting, beginning}
-use Rattle.head.specs.Machine.{refusal}
+use Rattle.head.specs.Act.{refusal}
 use Rattle.head.proofs.Ranges.{never}
 use Rattle.head.proofs.Proved.{head-theorems}
 use Rattle.session.specs.Session.{Call, Entry, entryOf, log, isAccepted, isEnd, hasEnded, refusalIn}

@@ -10,7 +10,8 @@ use Rattle.framing.specs.Header.{good, stop, headerAt}
 use Rattle.protocol.specs.Commands.{blocksFor}
 use Rattle.head.specs.State.{ended}
 use Rattle.head.specs.Answers.{continues, stopped, Outcome}
-use Rattle.head.specs.Machine.{gathered, withIncoming, afterByte, processed}
+use Rattle.head.specs.Gather.{gathered, withIncoming}
+use Rattle.head.specs.Act.{afterByte, processed}
 use Rattle.endian.specs.Lists.{All}
 use Rattle.session.specs.Reading.{Good, forFirmware, own, sizeOf, Starting}
 use Rattle.session.specs.Session.{Call}

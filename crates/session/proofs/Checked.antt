@@ -13,7 +13,8 @@ use Rattle.cdi.proofs.Proved.{cdi}
 use Rattle.head.specs.State.{inRange, live, idle}
 use Rattle.head.specs.Answers.{continues, stopped, Outcome}
 use Rattle.head.specs.Begin.{waiting}
-use Rattle.head.specs.Machine.{refusal, gathered, plain, withIncoming, processed, step}
+use Rattle.head.specs.Gather.{gathered, withIncoming}
+use Rattle.head.specs.Act.{refusal, plain, processed, step}
 use Rattle.head.proofs.Admitted.{admitted-as}
 use Rattle.head.proofs.Ranges.{never}
 use Rattle.head.proofs.Proved.{head-theorems}

@@ -12,7 +12,7 @@ use Rattle.framing.specs.Header.{Reading, good, stop, headerAt, inField, endpoi
 use Rattle.framing.proofs.Headers.{by-bits, body-small, fields-of}
 use Rattle.endian.specs.Lists.{zeros}
 use Rattle.head.specs.State.{idle}
-use Rattle.head.specs.Machine.{withByte, gathered}
+use Rattle.head.specs.Gather.{withByte, gathered}
 use Rattle.head.proofs.Ranges.{length-some}
 use Rattle.session.specs.Reading.{Good, forFirmware}
 use Rattle.head.specs.declared.Incoming.{Incoming}

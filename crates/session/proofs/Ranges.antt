@@ -10,7 +10,7 @@ use Rattle.endian.proofs.Cases.{impossible}
 use Rattle.head.specs.State.{inRange, live}
 use Rattle.head.specs.Answers.{refused}
 use Rattle.head.specs.Begin.{beginning}
-use Rattle.head.specs.Machine.{refusal}
+use Rattle.head.specs.Act.{refusal}
 use Rattle.head.proofs.Proved.{head-theorems}
 use Rattle.head.specs.declared.State.{State}
 use Rattle.session.specs.Session.{Call, Entry, entryOf, log}

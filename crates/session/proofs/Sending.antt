@@ -9,7 +9,7 @@ use lib.ListN.{length}
 use borrow.Author.Tests.{eq-eqb, eqb-true}
 use Rattle.endian.specs.Lists.{zeros, Words}
 use Rattle.head.specs.Answers.{Outcome}
-use Rattle.head.specs.Machine.{processed, step}
+use Rattle.head.specs.Act.{processed, step}
 use Rattle.head.proofs.Ranges.{never, by-test}
 use Rattle.session.specs.Reading.{Starting}
 use Rattle.session.specs.Session.{Call, Entry, entryOf, log, isAccepted, accepted, receivedBytes, OneRam, isEnd}

@@ -11,7 +11,7 @@ use borrow.Author.Tests.{eqb-true, eqb-false}
 use Rattle.endian.proofs.Cases.{impossible}
 use Rattle.protocol.specs.Commands.{commandIn, loadIn, carriedBy}
 use Rattle.protocol.proofs.Proved.{protocol}
-use Rattle.head.specs.Machine.{actionWaiting, actionLoading}
+use Rattle.head.specs.Act.{actionWaiting, actionLoading}
 use Rattle.head.proofs.Ranges.{never}
 use Rattle.endian.specs.Lists.{All}
 use Rattle.session.specs.Reading.{bodyOf, QueryFrame, LoadFrame, GoodLoad, Opens, BlockFrame, carried, sizeOf}

@@ -10,7 +10,7 @@ use borrow.Author.Tests.{eqb-true}
 use Rattle.endian.proofs.Cases.{impossible}
 use Rattle.head.specs.State.{live, ended}
 use Rattle.head.specs.Answers.{Report, refused, continues, stopped, started, Outcome}
-use Rattle.head.specs.Machine.{refusal, processed, step}
+use Rattle.head.specs.Act.{refusal, processed, step}
 use Rattle.head.proofs.Ranges.{never, by-test}
 use Rattle.head.proofs.Admitted.{admitted, admitted-as}
 use Rattle.head.proofs.Proved.{head-theorems}

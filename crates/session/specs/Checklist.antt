@@ -13,7 +13,7 @@ use Rattle.record.specs.Record.{typeField, numberIn}
 use Rattle.cdi.specs.Theorems.{Inputs, stringOf}
 use Rattle.head.specs.Answers.{continues, stopped}
 use Rattle.head.specs.Begin.{beginning}
-use Rattle.head.specs.Machine.{gathered}
+use Rattle.head.specs.Gather.{gathered}
 use Rattle.session.specs.Session.{isAccepted}
 use Rattle.head.specs.declared.State.{State}
 

@@ -11,7 +11,8 @@ use Rattle.endian.specs.Lists.{Words}
 use Rattle.record.specs.Record.{typeField, numberIn}
 use Rattle.head.specs.Answers.{Report, refused, continues, whole, stopped, started, Gathering, Outcome}
 use Rattle.head.specs.Begin.{beginning}
-use Rattle.head.specs.Machine.{gathered, acted}
+use Rattle.head.specs.Gather.{gathered}
+use Rattle.head.specs.Act.{acted}
 use Rattle.head.specs.declared.State.{State}
 
 -- what is lent to an acting: reply room, RAM and UDS may be anything. That a word of the UDS has 32 bits is its type in the code

@@ -3,7 +3,7 @@ use mathlib.Core.Path.{_≡_, sym, _∙_}
 use mathlib.Core.Bool.{true}
 use borrow.Author.Tests.{eq-eqb, ne-eqb, lt-ltb, le-ltb, not-true, not-false}
 use Rattle.head.specs.State.{isWhole, inRange, live}
-use Rattle.head.specs.Machine.{actRefusal}
+use Rattle.head.specs.Act.{actRefusal}
 use borrow.Author.Needs.{needs}
 use Rattle.head.proofs.admit_act.Statement.{statement}
 use Rattle.head.proofs.admit_act.Tie as tie

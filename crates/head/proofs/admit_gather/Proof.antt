@@ -3,7 +3,7 @@ use mathlib.Core.Path.{_≡_, sym, _∙_}
 use mathlib.Core.Bool.{true}
 use borrow.Author.Tests.{not-true, not-false}
 use Rattle.head.specs.State.{inRange, live}
-use Rattle.head.specs.Machine.{gatherRefusal}
+use Rattle.head.specs.Gather.{gatherRefusal}
 use borrow.Author.Needs.{needs}
 use Rattle.head.proofs.admit_gather.Statement.{statement}
 use Rattle.head.proofs.admit_gather.Tie as tie

@@ -1,7 +1,7 @@
 -- A refusal is the number that admit_act gives (`admission`); otherwise the call has what perform asks for.
 use mathlib.Core.Path.{_≡_, sym, ap, _∙_}
 use lib.ListN.{length}
-use Rattle.head.specs.Machine.{actRefusal}
+use Rattle.head.specs.Act.{actRefusal}
 use Rattle.head.proofs.Ranges.{range-facts}
 use Rattle.head.proofs.Admitted.{act-admitted, act-admitted-as}
 use Rattle.head.specs.Answers.{admissionNumber}

@@ -1,7 +1,7 @@
 -- A refusal is the number that admit_gather gives; otherwise the byte is taken.
 use mathlib.Core.Path.{_≡_, sym, ap, _∙_}
 use Rattle.head.specs.Answers.{admissionNumber}
-use Rattle.head.specs.Machine.{gatherRefusal}
+use Rattle.head.specs.Gather.{gatherRefusal}
 use Rattle.head.specs.declared.Admission.{Admission}
 use Rattle.head.proofs.Ranges.{range-facts}
 use Rattle.head.proofs.Admitted.{gather-refused-as, gather-admitted-as, gather-admitted}

@@ -1,6 +1,6 @@
 -- Between frames the byte is a header; otherwise the header of the frame says what it is.
 use borrow.Author.Tests.{eq-eqb, ne-eqb}
-use Rattle.head.specs.Machine.{byteStep}
+use Rattle.head.specs.Gather.{byteStep}
 use Rattle.head.proofs.Ranges.{incoming-got}
 use borrow.Author.Needs.{needs}
 use Rattle.head.proofs.gathering.take.Statement.{statement}

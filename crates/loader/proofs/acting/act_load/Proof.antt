@@ -3,7 +3,7 @@ use mathlib.Core.Path.{_≡_}
 use mathlib.Core.Bool.{true, false}
 use native.Mathlib.Omega.{arith}
 use Rattle.protocol.specs.Replies.{loadReply}
-use Rattle.head.specs.Machine.{loaded, loadAnswer, afterLoad}
+use Rattle.head.specs.Act.{loaded, loadAnswer, afterLoad}
 use Rattle.head.specs.declared.State.{State}
 use Rattle.loader.proofs.Steps.{load-made}
 use borrow.Author.Needs.{needs}

@@ -1,7 +1,7 @@
 -- What the frame asks for (`asked`) says which definition the outcome is.
 use mathlib.Core.Path.{_≡_, sym, ap, _∙_}
 use lib.ListN.{length}
-use Rattle.head.specs.Machine.{requestOf}
+use Rattle.head.specs.Act.{requestOf}
 use Rattle.head.specs.Steps.{requestFor}
 use Rattle.head.specs.declared.Action.{Action}
 use Rattle.head.proofs.Ranges.{block-loading}

@@ -3,7 +3,7 @@ use lib.ListN.{replicate}
 use Prim.Native.Nat.{ℕ}
 use mathlib.Core.Path.{ap, _∙_}
 use borrow.Author.Needs.{needs}
-use Rattle.head.specs.Machine.{starting}
+use Rattle.head.specs.Act.{starting}
 use Rattle.loader.proofs.acting.start.Statement.{statement}
 use Rattle.loader.proofs.acting.start.Tie as tie
 

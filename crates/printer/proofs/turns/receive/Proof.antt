@@ -6,16 +6,16 @@ use mathlib.Core.List.{[], _∷_}
 use denote.Enum.Declared.{tagOf}
 use types.Run.{OneOf, miss}
 use Rattle.head.proofs.Answer.{the-type}
-use Rattle.head.specs.Answers.{reportOf}
+use Rattle.head.specs.Answers.{reportsWhole, reportOf}
 use Rattle.head.specs.declared.Answer.{Answer}
 use Rattle.head.specs.declared.Answer.the-variants.{Refused, Continue, Whole, Stopped, Started}
-use Rattle.printer.specs.Output.{completes, afterByte}
+use Rattle.printer.specs.Output.{afterByte}
 use borrow.Author.Needs.{needs}
 use borrow.Author.Tests.{eq-eqb, ne-eqb}
 use Rattle.printer.proofs.turns.receive.Statement.{statement}
 use Rattle.printer.proofs.turns.receive.Tie as tie
 
-other : (a : Answer) → OneOf (0 ∷ 1 ∷ 3 ∷ 4 ∷ []) (tagOf the-type a) → completes (reportOf a) ≡ false
+other : (a : Answer) → OneOf (0 ∷ 1 ∷ 3 ∷ 4 ∷ []) (tagOf the-type a) → reportsWhole (reportOf a) ≡ false
 other (Refused r) t = refl
 other Continue t = refl
 other Whole t = absurd (miss (0 ∷ 1 ∷ 3 ∷ 4 ∷ []) 2 tt t)

@@ -1,81 +1,26 @@
--- What the two calls of a session do, `gather` and `act` (change request 8; document 01 has one for both, hearing): document 01, "Header byte",
--- "Commands and replies" and the table of refused calls.
-use Prim.Native.Nat.{ℕ, _+_, _-_}
-use mathlib.Core.Bool.{Bool, true, not, cond, _&&_}
+-- Acting on a whole frame, the second of the two calls: document 01, "Commands and replies", refusals 1 to 5 and 47, stops 23 to 25.
+use Prim.Native.Nat.{ℕ, _+_}
+use mathlib.Core.Bool.{Bool, true, not, cond}
 use mathlib.Core.List.{List, [], _∷_}
 use lib.Dec.{eqb, ltb}
-use lib.ListN.{length, take, set}
+use lib.ListN.{length, take}
 use lib.Seq.{paste}
-use Rattle.framing.specs.Header.{Reading, good, stop, headerAt, bodyLen}
+use Rattle.framing.specs.Header.{headerAt, bodyLen}
 use Rattle.rfc7693.specs.Rfc7693.{blake2s}
 use Rattle.endian.specs.Endian.{bytes}
 use Rattle.cdi.specs.Cdi.{cdiOf}
-use Rattle.protocol.specs.Commands.{firmware, commandIn, loadIn, goodLoad, usesUss, carriedBy, placeOf, countIn, isLast}
+use Rattle.protocol.specs.Commands.{commandIn, loadIn, goodLoad, usesUss, carriedBy, placeOf, countIn, isLast}
 use Rattle.protocol.specs.Replies.{sent, putIn, nameReply, udiReply, loadReply, blockReply, digestReply}
 use Rattle.protocol.specs.declared.Load.{Load}
 use Rattle.protocol.specs.declared.Reply.{Reply}
 use Rattle.endian.specs.Lists.{zeros, same}
 use Rattle.head.specs.State.{isWhole, inRange, live, idle, ended}
-use Rattle.head.specs.Answers.{Report, refused, continues, whole, stopped, started, Gathering, Outcome}
+use Rattle.head.specs.Answers.{Report, refused, continues, stopped, started, Outcome}
 use Rattle.head.specs.declared.Phase.{Phase}
 use Rattle.head.specs.declared.Phase.the-variants as phase
-use Rattle.head.specs.declared.Incoming.{Incoming}
 use Rattle.head.specs.declared.Config.{Config}
 use Rattle.head.specs.declared.Progress.{Progress}
 use Rattle.head.specs.declared.State.{State}
-
--- ---- a byte: "Header byte"
-
--- what a byte leads to
-pub data Step : Type 0 where
-  -- it is taken: the frame so far
-  taken : Incoming → Step
-  -- a header with bit 7 or bit 2 set
-  bad : Step
-
--- a header, for every endpoint
-abbrev pub opened : Reading → Incoming → ℕ → Step
-opened (good id ep n) i b = taken (record { header = b; got = 1; body = i .body })
-opened (stop k) i b = bad
-
--- with a byte of its body: only that of a frame for the firmware is kept
-abbrev pub withByte : Incoming → ℕ → ℕ → Incoming
-withByte i ep b = record { header = i .header; got = i .got + 1; body = cond (eqb ep firmware) (set (i .body) (i .got - 1) b) (i .body) }
-
--- a frame for another endpoint is passed over: after the last byte of its body nothing is left of it
-abbrev pub inBody : Incoming → ℕ → ℕ → ℕ → Incoming
-inBody i ep n b = cond (not (eqb ep firmware) && eqb (i .got) n) idle (withByte i ep b)
-
--- no state in range has a bad header here
-abbrev pub continued : Reading → Incoming → ℕ → Step
-continued (good id ep n) i b = taken (inBody i ep n b)
-continued (stop k) i b = bad
-
-unfoldable pub byteStep : Incoming → ℕ → Step
-byteStep i b = cond (eqb (i .got) 0) (opened (headerAt b) i b) (continued (headerAt (i .header)) i b)
-
--- ---- a call of `gather`
-
--- the lowest refusal that applies, 0 for none; 47 is gathering while a frame is whole
-unfoldable pub gatherRefusal : State → ℕ
-gatherRefusal s =
-    cond (not (inRange s)) 1
-    (cond (not (live (s .progress .phase))) 2
-    (cond (isWhole (s .incoming)) 47 0))
-
-abbrev pub withIncoming : State → Incoming → State
-withIncoming s i = record { incoming = i; config = s .config; progress = s .progress }
-
--- a bad header stops the head with 22
-abbrev pub afterStep : Step → State → Gathering
-afterStep (taken i) s = record { report = cond (isWhole i) whole continues; state = withIncoming s i }
-afterStep bad s = record { report = stopped 22; state = ended phase.Stopped (s .config .«ram_len») }
-
--- a refused call changes nothing
-unfoldable pub gathered : State → ℕ → Gathering
-gathered s b =
-    let k = gatherRefusal s in
-    cond (eqb k 0) (afterStep (byteStep (s .incoming) b) s) (record { report = refused k; state = s })
 
 -- ---- what a whole frame asks for: the table of commands
 
@@ -208,9 +153,9 @@ performed givesLoad s room ram uds = replying (loadAnswer s) (between s (afterLo
 performed givesBlock s room ram uds = actedBlock s room ram uds
 performed (halts k) s room ram uds = stopping k s room ram uds
 
--- ---- a call of `act`
+-- ---- a call
 
--- the lowest refusal that applies, 0 for none; 47 is acting while no frame is whole. What is lent is given by its lengths
+-- the first refusal that applies, 0 for none; 47 is acting while no frame is whole. What is lent is given by its lengths
 unfoldable pub actRefusal : State → ℕ → ℕ → ℕ → ℕ
 actRefusal s room ram uds =
     cond (not (inRange s)) 1
