@@ -23,19 +23,17 @@ use Rattle.head.specs.State.{idle, ended}
 use Rattle.endian.proofs.Same.{same-refl, same-eq}
 use Rattle.head.specs.Answers.{continues, stopped, started, Outcome}
 use Rattle.head.specs.Begin.{waiting, configOf}
-use Rattle.head.specs.Act.{actionIn, frameIn, storedIn, replying, loadAnswer, afterLoad, starting, allowed, finishedWith, actedBlock, performed, acted}
+use Rattle.head.specs.Act.{Request, givesLoad, requestIn, frameIn, requestOf, storedIn, replying, loadAnswer, afterLoad, starting, allowed, finishedWith, actedBlock, performed}
 use Rattle.head.proofs.Ranges.{never, by-test, length-some}
 use Rattle.session.specs.Reading.{Good, forFirmware, bodyOf, QueryFrame, LoadFrame, Opens, BlockFrame, carried, sizeOf, programOf, digestOf, Allowed, chained, measuredId}
 use Rattle.session.proofs.Frames.{All-append, good-some}
 use Rattle.session.proofs.Gathering.{holding, length-snoc}
-use Rattle.session.proofs.Shapes.{AskedWaiting, asks-name, asks-udi, asks-load, wrong-command, wrong-length, asked-waiting, AskedLoading, asks-block, no-command, no-length, asked-loading, Shape, one-shape, next-is, no-load, carried-snoc, carries-127, carried-length, load-size, All-last}
+use Rattle.session.proofs.Shapes.{AskedWaiting, asks-name, asks-udi, asks-load, asks-neither, asked-waiting, AskedLoading, asks-block, asks-no-block, asked-loading, Shape, one-shape, next-is, no-load, carried-snoc, carries-127, carried-length, load-size, All-last}
 use Rattle.head.specs.declared.Phase.the-variants as phase
 use Rattle.head.specs.declared.Incoming.{Incoming}
 use Rattle.head.specs.declared.Config.{Config}
 use Rattle.head.specs.declared.Progress.{Progress}
 use Rattle.head.specs.declared.State.{State}
-use Rattle.head.specs.declared.Action.{Action}
-use Rattle.head.specs.declared.Action.the-variants as action
 
 pub empty-rest : {A : Type 0} (l : List A) → length l ≡ 0 → l ≡ []
 empty-rest [] e = refl
@@ -141,7 +139,7 @@ module _ (rec udi : List ℕ) (m : ℕ) where
     opened f a o = is-waiting (All-append (Opens m) os (f ∷ []) a (o, tt))
 
     acts-load : (f : List ℕ) → All (Opens m) os → LoadFrame f → frameIn (at (holding f) waiting) ≡ f
-        → Acts room uds os f (performed action.TakeLoad (at (holding f) waiting) room ram uds)
+        → Acts room uds os f (performed givesLoad (at (holding f) waiting) room ram uds)
     unfolding afterLoad loadAnswer
     acts-load f a l e =
         rw e (by-test (λ (p : Progress). Acts room uds os f (replying (loadReply (holding f .header) (goodLoad m (loadIn f))) (at idle p) room ram uds)) (goodLoad m (loadIn f)) _ _
@@ -154,13 +152,12 @@ module _ (rec udi : List ℕ) (m : ℕ) where
         goes refl waiting refl (opened f a (inr (l, t))) fits
         (record { is = _; reply-to = to-load l (holding f .header) (ap (λ (x : List ℕ). getD x 0 0) e) _ refl; reply = refl; room-after = refl })))
 
-    acts-waiting : (f : List ℕ) → All (Opens m) os → (length (bodyOf f) ≡ 128 → frameIn (at (holding f) waiting) ≡ f) → (d : Action) → AskedWaiting f d
+    acts-waiting : (f : List ℕ) → All (Opens m) os → (length (bodyOf f) ≡ 128 → frameIn (at (holding f) waiting) ≡ f) → (d : Request) → AskedWaiting f d
         → Acts room uds os f (performed d (at (holding f) waiting) room ram uds)
     acts-waiting f a e d (asks-name q) = goes refl waiting refl (opened f a (inl q)) fits (record { is = _; reply-to = to-query q _; reply = refl; room-after = refl })
     acts-waiting f a e d (asks-udi q) = goes refl waiting refl (opened f a (inl q)) fits (record { is = _; reply-to = to-query q _; reply = refl; room-after = refl })
     acts-waiting f a e d (asks-load l) = acts-load f a l (e (l .0))
-    acts-waiting f a e d (wrong-command q l) = stops 23 refl refl (λ hs g c. not-next f a q l hs g)
-    acts-waiting f a e d (wrong-length q l) = stops 24 refl refl (λ hs g c. not-next f a q l hs g)
+    acts-waiting f a e d (asks-neither k q l) = stops k refl refl (λ hs g c. not-next f a q l hs g)
 
     module _ (g : Shape m os) (due : length (g .blocks) < blocksFor (sizeOf (g .load))) (held : take (127 * length (g .blocks)) ram ≡ carried (g .blocks)) (f : List ℕ)
         (b : BlockFrame f) where
@@ -271,11 +268,10 @@ module _ (rec udi : List ℕ) (m : ℕ) where
         x (All-last BlockFrame (g .blocks) f hs (rw (u .1) (h .carry)))
 
     acts-loading : (g : Shape m os) → length (g .blocks) < blocksFor (sizeOf (g .load)) → take (127 * length (g .blocks)) ram ≡ carried (g .blocks)
-        → (f : List ℕ) (i : Incoming) → (length (bodyOf f) ≡ 128 → i .header ∷ i .body ≡ f) → i .header ≡ getD f 0 0 → (d : Action) → AskedLoading f d
+        → (f : List ℕ) (i : Incoming) → (length (bodyOf f) ≡ 128 → i .header ∷ i .body ≡ f) → i .header ≡ getD f 0 0 → (d : Request) → AskedLoading f d
         → Acts room uds os f (performed d (at i (loadedWith (g .load) (length (g .blocks)))) room ram uds)
     acts-loading g due t f i e h d (asks-block b) = acts-block g due t f b i (e (b .0)) h
-    acts-loading g due t f i e h d (no-command x) = stops 23 refl refl (λ hs k c. not-block g f x hs k)
-    acts-loading g due t f i e h d (no-length x) = stops 24 refl refl (λ hs k c. not-block g f x hs k)
+    acts-loading g due t f i e h d (asks-no-block k x) = stops k refl refl (λ hs s c. not-block g f x hs s)
 
     -- ---- the frame that was gathered
 
@@ -291,19 +287,19 @@ module _ (rec udi : List ℕ) (m : ℕ) where
         omega arith
 
     doing : (h x : ℕ) (q : List ℕ) → forFirmware (h ∷ x ∷ q) ≡ true → Good (h ∷ x ∷ q) → (p : Progress) → Doing ram os p
-        → Acts room uds os (h ∷ x ∷ q) (performed (actionIn (p .phase) x (bodyLen (headerAt h))) (at (holding (h ∷ x ∷ q)) p) room ram uds)
+        → Acts room uds os (h ∷ x ∷ q) (performed (requestIn (p .phase) x (bodyLen (headerAt h))) (at (holding (h ∷ x ∷ q)) p) room ram uds)
     doing h x q o w p (is-waiting a) =
         rw (held-body h (x ∷ q) w) (acts-waiting (h ∷ x ∷ q) a (held-frame h (x ∷ q) o) _ (asked-waiting (h ∷ x ∷ q)))
     doing h x q o w p (is-loading g due t) =
         rw (held-body h (x ∷ q) w) (acts-loading g due t (h ∷ x ∷ q) (holding (h ∷ x ∷ q)) (held-frame h (x ∷ q) o) refl _ (asked-loading (h ∷ x ∷ q)))
 
-    pub acts : (f : List ℕ) → forFirmware f ≡ true → Good f → (p : Progress) → Doing ram os p → Acts room uds os f (acted (at (holding f) p) room ram uds)
-    unfolding acted
+    pub acts : (f : List ℕ) → forFirmware f ≡ true → Good f → (p : Progress) → Doing ram os p
+        → Acts room uds os f (performed (requestOf (at (holding f) p)) (at (holding f) p) room ram uds)
     acts [] o w p d = absurd (good-some w)
     acts (h ∷ []) o w p d =
         absurd (let l = length-some h (w .id) (w .ep) (w .n) (w .header) in let e : 1 ≡ 1 + w .n = w .whole in omega arith)
     acts (h ∷ x ∷ q) o w p d =
-        subst (λ (c : ℕ). Acts room uds os (h ∷ x ∷ q) (performed (actionIn (p .phase) c (bodyLen (headerAt h))) (at (holding (h ∷ x ∷ q)) p) room ram uds)) (sym (first o))
+        subst (λ (c : ℕ). Acts room uds os (h ∷ x ∷ q) (performed (requestIn (p .phase) c (bodyLen (headerAt h))) (at (holding (h ∷ x ∷ q)) p) room ram uds)) (sym (first o))
         (doing h x q o w p d)
       where
         first : forFirmware (h ∷ x ∷ q) ≡ true → getD (holding (h ∷ x ∷ q) .body) 0 0 ≡ x

@@ -2,24 +2,28 @@
 use Prim.Native.Nat.{ℕ, _≤_}
 use mathlib.Core.Path.{_≡_, refl, sym, ap, _∙_, subst}
 use mathlib.Core.Logic.{_↔_, _⊎_, inl, inr}
-use mathlib.Core.Bool.{Bool, true, false, not, _||_, and-eq-true-iff}
+use mathlib.Core.Bool.{Bool, true, false, not, cond, _||_, and-eq-true-iff}
 use mathlib.Core.List.{List, [], _∷_, _++_, head-eq-of-cons-eq, tail-eq-of-cons-eq}
-use native.Mathlib.Omega.{arith}
 use lib.Dec.{eqb, leb}
 use lib.ListN.{length}
 use borrow.Author.Tests.{eqb-true, leb-true}
 use Rattle.endian.proofs.Cases.{impossible}
 use Rattle.record.specs.Record.{typeField, numberIn, recordAt}
 use Rattle.protocol.specs.Commands.{lengthOk}
-use Rattle.head.specs.State.{inRange, live, idle, ended}
-use Rattle.head.specs.Answers.{Report, refused, continues, stopped, started}
+use Rattle.head.specs.State.{isWhole, inRange, live, idle, ended}
+use Rattle.head.specs.Answers.{Report, refused, continues, whole, stopped, started, Outcome}
 use Rattle.head.specs.Begin.{waiting, beginning}
-use Rattle.head.specs.Act.{refusal}
+use Rattle.head.specs.Theorems.{GatherProperties, ActProperties}
+use Rattle.head.specs.Gather.{gatherRefusal, gathered}
+use Rattle.head.specs.Act.{actRefusal, acted}
 use Rattle.head.proofs.Ranges.{never}
+use Rattle.head.proofs.Admitted.{act-admitted}
 use Rattle.head.proofs.Proved.{head-theorems}
-use Rattle.session.specs.Session.{Call, Entry, entryOf, log, isAccepted, isEnd, hasEnded, refusalIn}
+use Rattle.session.specs.Session.{Call, gather, act, Entry, acts, entryOf, callOf, reportIn, stateAfter, log, isAccepted, accepted, isEnd, hasEnded, completes, refusalIn}
+use Rattle.session.proofs.Gathering.{is-part}
 use Rattle.session.proofs.Acting.{at}
-use Rattle.session.proofs.Walk.{numberOf}
+use Rattle.session.proofs.Entries.{lastFrom, numberOf, call-refuses, number-zero}
+use Rattle.head.specs.declared.Phase.{Phase}
 use Rattle.head.specs.declared.Phase.the-variants as phase
 use Rattle.head.specs.declared.Config.{Config}
 use Rattle.head.specs.declared.State.{State}
@@ -49,64 +53,122 @@ fresh rec udi m e t = go (eqb (length rec) 256) (lengthOk m) refl refl t
 
 -- ---- refusals
 
+-- whether the head has ended after a call, and whether a frame is whole
+abbrev pub overAfter : Bool → Entry → Bool
+overAfter over e = isEnd (reportIn e) || over
+
+abbrev pub fullAfter : Bool → Entry → Bool
+fullAfter full e = cond (isAccepted (reportIn e)) (completes e) full
+
+or-moves : (x y z : Bool) → x || (y || z) ≡ (y || x) || z
+or-moves true true z = refl
+or-moves true false z = refl
+or-moves false true z = refl
+or-moves false false z = refl
+
+-- the last of the accepted calls, where e is the first call
+last-moves : (e : Entry) (es : List Entry) (full : Bool) → lastFrom completes (fullAfter full e) (accepted es) ≡ lastFrom completes full (accepted (e ∷ es))
+last-moves e es full = go (isAccepted (reportIn e))
+  where
+    go : (t : Bool) → lastFrom completes (cond t (completes e) full) (accepted es) ≡ lastFrom completes full (cond t (e ∷ accepted es) (accepted es))
+    go true = refl
+    go false = refl
+
+call-of : (s : State) (c : Call) → callOf (entryOf s c) ≡ c
+call-of s (gather b) = refl
+call-of s (act l) = refl
+
 module _ (m : ℕ) where
-  -- the head is in range, was begun with m bytes of RAM, and has ended or not
-  pub record Runs (s : State) (over : Bool) : Type 0 where
+  -- the head is in range, was begun with m bytes of RAM, has ended or not, and holds a whole frame or none
+  pub record Runs (s : State) (over full : Bool) : Type 0 where
     pub range : inRange s ≡ true
     pub ram : s .config .«ram_len» ≡ m
     pub goes : live (s .progress .phase) ≡ not over
+    pub holds : isWhole (s .incoming) ≡ full
 
-  pub number-is : (s : State) (over : Bool) (c : Call) → Runs s over → numberOf s c ≡ refusalIn over m c
-  unfolding refusal
-  number-is s true c v = rw (v .range, v .ram, v .goes)
-  number-is s false c v = rw (v .range, v .ram, v .goes)
+  pub number-is : (s : State) (over full : Bool) (c : Call) → Runs s over full → numberOf s c ≡ refusalIn over full m c
+  unfolding gatherRefusal actRefusal
+  number-is s true full (gather b) v = rw (v .range, v .goes)
+  number-is s false full (gather b) v = rw (v .range, v .goes, v .holds)
+  number-is s true full (act l) v = rw (v .range, v .goes)
+  number-is s false full (act l) v = rw (v .range, v .goes, v .holds, v .ram)
 
-  ended-runs : (s : State) (over : Bool) → inRange s ≡ true → (s ≡ ended phase.Started m) ⊎ (s ≡ ended phase.Stopped m) → Runs s true
+  ended-runs : (s : State) (p : Phase) → live p ≡ false → inRange s ≡ true → s ≡ ended p m → Runs s true false
   unfolding ended
-  ended-runs s over r (inl e) = record { range = r; ram = ap (λ (t : State). t .config .«ram_len») e; goes = ap (λ (t : State). live (t .progress .phase)) e }
-  ended-runs s over r (inr e) = record { range = r; ram = ap (λ (t : State). t .config .«ram_len») e; goes = ap (λ (t : State). live (t .progress .phase)) e }
+  ended-runs s p n r e =
+      record {
+        range = r;
+        ram = ap (λ (t : State). t .config .«ram_len») e;
+        goes = ap (λ (t : State). live (t .progress .phase)) e ∙ n;
+        holds = ap (λ (t : State). isWhole (t .incoming)) e ∙ is-part [] tt;
+      }
 
-  still : (s : State) (over : Bool) (c : Call) → Runs s over → entryOf s c .out .report ≡ continues → inRange (entryOf s c .out .state) ≡ true
-      → entryOf s c .out .state .config ≡ s .config → live (entryOf s c .out .state .progress .phase) ≡ true → Runs (entryOf s c .out .state) over
-  still s true c v e r k g =
-      let q = head-theorems .call s (c .byte) (c .room) (c .ram) (c .uds) .refuses 2 .1 (sym (number-is s true c v), λ z. omega arith) in
-      let d : refused 2 ≡ continues = sym q ∙ e in
-      impossible cc
-  still s false c v e r k g = record { range = r; ram = ap (λ (x : Config). x .«ram_len») k ∙ v .ram; goes = g }
-
-  pub next-runs : (s : State) (over : Bool) (c : Call) → Runs s over → Runs (entryOf s c .out .state) (isEnd (entryOf s c .out .report) || over)
-  next-runs s over c v = go (entryOf s c .out .report) refl
+  pub next-runs : (s : State) (over full : Bool) (c : Call) → Runs s over full
+      → Runs (stateAfter (entryOf s c)) (overAfter over (entryOf s c)) (fullAfter full (entryOf s c))
+  next-runs s over full (gather b) v = go (gathered s b .report) refl
     where
-      go : (x : Report) → entryOf s c .out .report ≡ x → Runs (entryOf s c .out .state) (isEnd (entryOf s c .out .report) || over)
-      go (refused k) e =
-          let l = head-theorems .call s (c .byte) (c .room) (c .ram) (c .uds) in
-          rw (l .kept k e) v
+      l : GatherProperties s b
+      l = head-theorems .gather s b
+
+      same : (gathered s b .report ≡ continues) ⊎ (gathered s b .report ≡ whole) → (t : Bool) → isWhole (gathered s b .state .incoming) ≡ t
+          → Runs (gathered s b .state) over t
+      same e t w =
+          let q = l .goes-on e .0 in
+          record {
+            range = l .stays (v .range);
+            ram = ap (λ (t : State). t .config .«ram_len») q ∙ v .ram;
+            goes = ap (λ (t : State). live (t .progress .phase)) q ∙ v .goes;
+            holds = w;
+          }
+
+      go : (x : Report) → gathered s b .report ≡ x → Runs (gathered s b .state) (overAfter over (entryOf s (gather b))) (fullAfter full (entryOf s (gather b)))
+      go (refused k) e = rw (e, l .kept k e) v
+      go continues e = rw e (same (inl e) false (l .not-whole e))
+      go whole e = rw e (same (inr e) true (l .is-whole e))
+      go (stopped k) e = rw e (ended-runs _ phase.Stopped refl (l .stays (v .range)) (l .stops k e .1 ∙ ap (ended phase.Stopped) (v .ram)))
+      go (started a n) e = absurd (l .no-start a n e)
+  next-runs s over full (act x) v = go (out .report) refl
+    where
+      out : Outcome
+      out = acted s (x .room) (x .ram) (x .uds)
+
+      l : ActProperties s (x .room) (x .ram) (x .uds)
+      l = head-theorems .act s (x .room) (x .ram) (x .uds)
+
+      -- an accepted acting is one of a head that has not ended
+      live-before : isAccepted (out .report) ≡ true → live (s .progress .phase) ≡ true
+      live-before t = act-admitted s (length (x .room)) (length (x .ram)) (length (x .uds)) (number-zero s (act x) t) .goes
+
+      go : (y : Report) → out .report ≡ y → Runs (out .state) (overAfter over (acts x out)) (fullAfter full (acts x out))
+      go (refused k) e = rw (e, l .kept k e) v
       go continues e =
-          let l = head-theorems .call s (c .byte) (c .room) (c .ram) (c .uds) in
-          rw e (still s over c v e (l .stays (v .range)) (l .goes-on e .0) (l .lives e))
-      go (stopped k) e =
-          let l = head-theorems .call s (c .byte) (c .room) (c .ram) (c .uds) in
-          rw e (ended-runs _ over (l .stays (v .range)) (inr (l .stops k e .0 ∙ ap (ended phase.Stopped) (v .ram))))
-      go (started a n) e =
-          let l = head-theorems .call s (c .byte) (c .room) (c .ram) (c .uds) in
-          rw e (ended-runs _ over (l .stays (v .range)) (inl (l .starts a n e .2 ∙ ap (ended phase.Started) (v .ram))))
+          let g = l .goes-on e in
+          rw e (record {
+            range = l .stays (v .range);
+            ram = ap (λ (c : Config). c .«ram_len») (g .1) ∙ v .ram;
+            goes = l .lives e ∙ sym (live-before (ap isAccepted e)) ∙ v .goes;
+            holds = ap isWhole (g .0) ∙ is-part [] tt;
+          })
+      go whole e = absurd (l .no-whole e)
+      go (stopped k) e = rw e (ended-runs _ phase.Stopped refl (l .stays (v .range)) (l .stops k e .2 ∙ ap (ended phase.Stopped) (v .ram)))
+      go (started a n) e = rw e (ended-runs _ phase.Started refl (l .stays (v .range)) (l .starts a n e .2 ∙ ap (ended phase.Started) (v .ram)))
 
-  or-moves : (x y z : Bool) → x || (y || z) ≡ (y || x) || z
-  or-moves true true z = refl
-  or-moves true false z = refl
-  or-moves false true z = refl
-  or-moves false false z = refl
+  -- e is refused as the table says
+  abbrev Tabled : Bool → Bool → Entry → Type 0
+  Tabled over full e = (k : ℕ) → (reportIn e ≡ refused k) ↔ ((k ≡ refusalIn over full m (callOf e)) × (k ≡ 0 → ⊥))
 
-  pub table-from : (cs : List Call) (s : State) (over : Bool) → Runs s over → (before after : List Entry) (e : Entry) → log s cs ≡ before ++ e ∷ after
-      → (k : ℕ) → (e .out .report ≡ refused k) ↔ ((k ≡ refusalIn (hasEnded before || over) m (e .call)) × (k ≡ 0 → ⊥))
-  table-from [] s over v [] after e q k = impossible cc
-  table-from [] s over v (x ∷ before) after e q k = impossible cc
-  table-from (c ∷ cs) s over v [] after e q k =
-      subst (λ (x : Entry). (x .out .report ≡ refused k) ↔ ((k ≡ refusalIn over m (x .call)) × (k ≡ 0 → ⊥))) (head-eq-of-cons-eq q)
-      (subst (λ (j : ℕ). (entryOf s c .out .report ≡ refused k) ↔ ((k ≡ j) × (k ≡ 0 → ⊥))) (number-is s over c v)
-      (head-theorems .call s (c .byte) (c .room) (c .ram) (c .uds) .refuses k))
-  table-from (c ∷ cs) s over v (x ∷ before) after e q k =
+  first-tabled : (s : State) (over full : Bool) (c : Call) → Runs s over full → Tabled over full (entryOf s c)
+  first-tabled s over full c v k =
+      subst (λ (j : ℕ). (reportIn (entryOf s c) ≡ refused k) ↔ ((k ≡ j) × (k ≡ 0 → ⊥)))
+      (number-is s over full c v ∙ ap (refusalIn over full m) (sym (call-of s c))) (call-refuses s c k)
+
+  pub table-from : (cs : List Call) (s : State) (over full : Bool) → Runs s over full → (before after : List Entry) (e : Entry) → log s cs ≡ before ++ e ∷ after
+      → Tabled (hasEnded before || over) (lastFrom completes full (accepted before)) e
+  table-from [] s over full v [] after e q = impossible cc
+  table-from [] s over full v (x ∷ before) after e q = impossible cc
+  table-from (c ∷ cs) s over full v [] after e q = subst (Tabled over full) (head-eq-of-cons-eq q) (first-tabled s over full c v)
+  table-from (c ∷ cs) s over full v (x ∷ before) after e q =
       let p : entryOf s c ≡ x = head-eq-of-cons-eq q in
-      let t = table-from cs (entryOf s c .out .state) (isEnd (entryOf s c .out .report) || over) (next-runs s over c v) before after e (tail-eq-of-cons-eq q) k in
-      subst (λ (o : Bool). (e .out .report ≡ refused k) ↔ ((k ≡ refusalIn o m (e .call)) × (k ≡ 0 → ⊥)))
-      (or-moves (hasEnded before) (isEnd (entryOf s c .out .report)) over ∙ ap (λ (y : Entry). (isEnd (y .out .report) || hasEnded before) || over) p) t
+      let t = table-from cs (stateAfter (entryOf s c)) _ _ (next-runs s over full c v) before after e (tail-eq-of-cons-eq q) in
+      subst (λ (y : Entry). Tabled (hasEnded (y ∷ before) || over) (lastFrom completes full (accepted (y ∷ before))) e) p
+      (rw (← or-moves (hasEnded before) (isEnd (reportIn (entryOf s c))) over, ← last-moves (entryOf s c) before full) t)

@@ -1,4 +1,4 @@
--- One accepted call: what the accepted bytes so far are, and what the byte of the call makes of them.
+-- One accepted call: what the accepted calls so far amount to, and what a gathering and an acting make of it.
 use Prim.Native.Nat.{ℕ, suc, _+_}
 use mathlib.Core.Path.{_≡_, refl, sym, ap, _∙_, subst}
 use mathlib.Core.Bool.{true, false}
@@ -8,21 +8,21 @@ use lib.ListN.{length, getD, length-append}
 use Rattle.endian.proofs.Cases.{impossible}
 use Rattle.framing.specs.Header.{good, stop, headerAt}
 use Rattle.protocol.specs.Commands.{blocksFor}
-use Rattle.head.specs.State.{ended}
-use Rattle.head.specs.Answers.{continues, stopped, Outcome}
-use Rattle.head.specs.Gather.{gathered, withIncoming}
-use Rattle.head.specs.Act.{afterByte, processed}
+use Rattle.head.specs.State.{isWhole, ended}
+use Rattle.head.specs.Answers.{continues, whole, stopped, Gathering, Outcome}
+use Rattle.head.specs.Gather.{Step, byteStep, gatherRefusal, afterStep, gathered}
+use Rattle.head.specs.Act.{requestOf, performed, actRefusal, acted}
+use Rattle.head.proofs.Admitted.{gather-admitted-as, act-admitted, act-admitted-as}
 use Rattle.endian.specs.Lists.{All}
 use Rattle.session.specs.Reading.{Good, forFirmware, own, sizeOf, Starting}
-use Rattle.session.specs.Session.{Call}
+use Rattle.session.specs.Session.{Loan}
 use Rattle.session.proofs.Frames.{All-append, own-append, flatten-snoc, own-more, own-same, same-size, Further, reads-on, good-some}
-use Rattle.session.proofs.Gathering.{holding, Partial, Gathers, at-bad, at-part, at-passed, at-whole, gathers}
-use Rattle.session.proofs.Shapes.{Shape}
+use Rattle.session.proofs.Gathering.{holding, Partial, is-part, is-whole, Gathers, at-bad, at-part, at-passed, at-whole, gathers}
+use Rattle.session.proofs.Shapes.{Shape, All-last}
 use Rattle.session.proofs.Acting.{empty-rest, grows, at, Doing, Complete, not-yet, Leaves, Replies, Acts, goes, starts, stops, acts}
 use Rattle.head.specs.declared.Phase.the-variants as phase
 use Rattle.head.specs.declared.Progress.{Progress}
 use Rattle.head.specs.declared.State.{State}
-use Rattle.head.specs.declared.Gathered.{Gathered}
 
 -- what is left over of a part, in the bytes of whole good frames, is nothing
 none-partial : (p : List ℕ) (hs : List (List ℕ)) → Partial p → All Good hs → p ≡ flatten hs → hs ≡ []
@@ -62,163 +62,198 @@ none-after (x ∷ xs) ys [] l e o n =
 none-after (x ∷ xs) ys (b ∷ before) l e o n = none-after xs ys before l (tail-eq-of-cons-eq e) o n
 
 module _ (rec udi : List ℕ) (m : ℕ) where
-  -- bs are the accepted bytes so far, and r is the RAM that the last accepted call left
-  pub record Live (bs : List ℕ) (s : State) (r : List ℕ) : Type 0 where
+  -- bs are the accepted bytes so far, os the frames that were acted on, and r is the RAM that the last accepted acting left; no frame is whole
+  pub record Live (os : List (List ℕ)) (bs : List ℕ) (s : State) (r : List ℕ) : Type 0 where
     pub frames : List (List ℕ)
     pub part : List ℕ
     pub all-good : All Good frames
     pub whole : bs ≡ flatten frames ++ part
     pub partial : Partial part
+    pub owned : own frames ≡ os
     pub progress : Progress
     pub state : s ≡ at rec udi m (holding part) progress
-    pub doing : Doing rec udi m r (own frames) progress
+    pub doing : Doing rec udi m r os progress
+
+  -- the frame f for the firmware is whole, and was not acted on
+  pub record Full (os : List (List ℕ)) (f bs : List ℕ) (s : State) (r : List ℕ) : Type 0 where
+    pub frames : List (List ℕ)
+    pub all-good : All Good (frames ++ f ∷ [])
+    pub whole : bs ≡ flatten (frames ++ f ∷ [])
+    pub last-own : forFirmware f ≡ true
+    pub owned : own frames ≡ os
+    pub progress : Progress
+    pub state : s ≡ at rec udi m (holding f) progress
+    pub doing : Doing rec udi m r os progress
+
+  pub not-whole : {os : List (List ℕ)} {bs : List ℕ} {s : State} {r : List ℕ} → Live os bs s r → isWhole (s .incoming) ≡ false
+  not-whole v = ap (λ (s : State). isWhole (s .incoming)) (v .state) ∙ is-part (v .part) (v .partial)
+
+  pub now-whole : {os : List (List ℕ)} {f bs : List ℕ} {s : State} {r : List ℕ} → Full os f bs s r → isWhole (s .incoming) ≡ true
+  now-whole {f = f} v =
+      ap (λ (s : State). isWhole (s .incoming)) (v .state) ∙ is-whole f (All-last Good (v .frames) f [] (v .all-good)) (v .last-own)
 
   -- bytes that go on after whole frames, read as those of a start
-  module _ (bs rest : List ℕ) (fs : List (List ℕ)) (part : List ℕ) (a : All Good fs) (e : bs ≡ flatten fs ++ part) (w : Starting rec m (bs ++ rest)) where
-    further : Further fs (w .before ++ w .last ∷ []) (part ++ rest)
-    further =
-        reads-on fs (w .before ++ w .last ∷ []) (part ++ rest) a (w .all-good)
-        (sym (append-assoc (flatten fs) part rest) ∙ ap (λ (x : List ℕ). x ++ rest) (sym e) ∙ w .nothing-left)
+  further : (bs rest : List ℕ) (fs : List (List ℕ)) (part : List ℕ) → All Good fs → bs ≡ flatten fs ++ part → (w : Starting rec m (bs ++ rest))
+      → Further fs (w .before ++ w .last ∷ []) (part ++ rest)
+  further bs rest fs part a e w =
+      reads-on fs (w .before ++ w .last ∷ []) (part ++ rest) a (w .all-good)
+      (sym (append-assoc (flatten fs) part rest) ∙ ap (λ (x : List ℕ). x ++ rest) (sym e) ∙ w .nothing-left)
 
   abbrev shape-of : {bs : List ℕ} (w : Starting rec m bs) (os : List (List ℕ)) → os ≡ own (w .before ++ w .last ∷ []) → Shape m os
   shape-of w os e = record { opening = w .opening; load = w .load; blocks = w .blocks; order = e ∙ w .order; opens = w .opens; loads = w .loads; carry = w .carry }
 
-  pub not-live : {bs : List ℕ} {s : State} {r : List ℕ} → Live bs s r → Starting rec m bs → ⊥
-  not-live {bs = bs} v w =
+  pub not-live : {os : List (List ℕ)} {bs : List ℕ} {s : State} {r : List ℕ} → Live os bs s r → Starting rec m bs → ⊥
+  not-live {os = os} v w =
       let u = reads-on (v .frames) (w .before ++ w .last ∷ []) (v .part) (v .all-good) (w .all-good) (sym (v .whole) ∙ w .nothing-left) in
       let n = none-partial (v .part) (u .rest) (v .partial) (u .all-good) (u .bytes) in
-      let e : own (v .frames) ≡ own (w .before ++ w .last ∷ []) =
-      ap own (sym (append-nil (v .frames)) ∙ ap (λ (x : List (List ℕ)). v .frames ++ x) (sym n) ∙ sym (u .frames)) in
-      not-yet rec udi m (v .doing) (shape-of w (own (v .frames)) e) (record { enough = w .enough; digest = w .allowed })
+      let e : os ≡ own (w .before ++ w .last ∷ []) =
+      sym (v .owned) ∙ ap own (sym (append-nil (v .frames)) ∙ ap (λ (x : List (List ℕ)). v .frames ++ x) (sym n) ∙ sym (u .frames)) in
+      not-yet rec udi m (v .doing) (shape-of w os e) (record { enough = w .enough; digest = w .allowed })
 
-  -- what is in the room after a call that goes on: a reply with the last byte of a frame for the firmware, and otherwise nothing
-  pub data FrameReply (room f : List ℕ) (o : Outcome) : Type 0 where
-    within : Partial f → o .reply ≡ 0 → FrameReply room f o
-    passed : forFirmware f ≡ false → o .reply ≡ 0 → FrameReply room f o
-    answers : Good f → Replies rec udi m room f o → FrameReply room f o
+  -- ---- a gathering
 
-  -- the bytes so far are whole frames, and then these, of which the byte is the last
-  pub record CallReply (c : Call) (bs : List ℕ) (o : Outcome) : Type 0 where
-    pub frames : List (List ℕ)
-    pub part : List ℕ
-    pub all-good : All Good frames
-    pub whole : bs ≡ flatten frames ++ (part ++ c .byte ∷ [])
-    pub says : FrameReply (c .room) (part ++ c .byte ∷ []) o
+  pub data AfterGather (os : List (List ℕ)) (bs r : List ℕ) (o : Gathering) : Type 0 where
+    unfinished : o .report ≡ continues → Live os bs (o .state) r → AfterGather os bs r o
+    complete : o .report ≡ whole → (f : List ℕ) → Full os f bs (o .state) r → AfterGather os bs r o
+    bad-header : o .report ≡ stopped 22 → o .state ≡ ended phase.Stopped m → ((rest : List ℕ) → Starting rec m (bs ++ rest) → ⊥) → AfterGather os bs r o
 
-  pub data After (c : Call) (bs : List ℕ) (o : Outcome) : Type 0 where
-    goes-on : o .report ≡ continues → Live bs (o .state) (o .ram) → length (o .ram) ≡ m → CallReply c bs o → After c bs o
-    has-started : (w : Starting rec m bs) → Leaves rec udi m (w .load) (w .blocks) (getD (w .last) 0 0) (c .room) (c .uds) o
-        → ((rest : List ℕ) → Starting rec m (bs ++ rest) → rest ≡ []) → After c bs o
-    has-stopped : (k : ℕ) → o .report ≡ stopped k → o .state ≡ ended phase.Stopped m → ((rest : List ℕ) → Starting rec m (bs ++ rest) → ⊥) → After c bs o
-
-  module _ (c : Call) (bs : List ℕ) (s : State) (v : Live bs s (c .ram)) (fits : length (c .ram) ≡ m) where
+  module _ (os : List (List ℕ)) (bs : List ℕ) (s : State) (r : List ℕ) (v : Live os bs s r) (b : ℕ) where
     abbrev byte-in : List ℕ
-    byte-in = v .part ++ c .byte ∷ []
+    byte-in = v .part ++ b ∷ []
 
-    longer : bs ++ c .byte ∷ [] ≡ flatten (v .frames) ++ byte-in
-    longer = ap (λ (x : List ℕ). x ++ c .byte ∷ []) (v .whole) ∙ append-assoc (flatten (v .frames)) (v .part) (c .byte ∷ [])
+    longer : bs ++ b ∷ [] ≡ flatten (v .frames) ++ byte-in
+    longer = ap (λ (x : List ℕ). x ++ b ∷ []) (v .whole) ∙ append-assoc (flatten (v .frames)) (v .part) (b ∷ [])
 
     -- with the frame that the byte ends
-    closed : bs ++ c .byte ∷ [] ≡ flatten (v .frames ++ byte-in ∷ [])
+    closed : bs ++ b ∷ [] ≡ flatten (v .frames ++ byte-in ∷ [])
     closed = longer ∙ sym (flatten-snoc (v .frames) byte-in)
-
-    closed-nil : bs ++ c .byte ∷ [] ≡ flatten (v .frames ++ byte-in ∷ []) ++ []
-    closed-nil = closed ∙ sym (append-nil _)
 
     all-good : Good byte-in → All Good (v .frames ++ byte-in ∷ [])
     all-good g = All-append Good (v .frames) (byte-in ∷ []) (v .all-good) (g, tt)
 
-    -- the frames for the firmware, when the bytes go on
-    own-further : (g : Good byte-in) → forFirmware byte-in ≡ true → (rest : List ℕ) (w : Starting rec m ((bs ++ c .byte ∷ []) ++ rest))
-        → own (v .frames) ++ byte-in ∷ own (further (bs ++ c .byte ∷ []) rest (v .frames ++ byte-in ∷ []) [] (all-good g) closed-nil w .rest) ≡ own (w .before ++ w .last ∷ [])
-    own-further g o rest w =
-        let u = further (bs ++ c .byte ∷ []) rest (v .frames ++ byte-in ∷ []) [] (all-good g) closed-nil w in
-        sym (append-assoc (own (v .frames)) (byte-in ∷ []) (own (u .rest)))
-        ∙ ap (λ (x : List (List ℕ)). x ++ own (u .rest)) (sym (own-more (v .frames) byte-in o))
-        ∙ sym (own-append (v .frames ++ byte-in ∷ []) (u .rest))
-        ∙ ap own (sym (u .frames))
-
-    last-start : (g : Good byte-in) → forFirmware byte-in ≡ true → (h : Shape m (own (v .frames) ++ byte-in ∷ [])) → Complete rec udi m h
-        → (rest : List ℕ) → Starting rec m ((bs ++ c .byte ∷ []) ++ rest) → rest ≡ []
-    unfolding flatten
-    last-start g o h k rest w =
-        let u = further (bs ++ c .byte ∷ []) rest (v .frames ++ byte-in ∷ []) [] (all-good g) closed-nil w in
-        let e = sym (append-assoc (own (v .frames)) (byte-in ∷ []) (own (u .rest))) in
-        let t = grows m (own (v .frames) ++ byte-in ∷ []) (own (u .rest)) h (shape-of w _ (append-assoc (own (v .frames)) (byte-in ∷ []) (own (u .rest)) ∙ own-further g o rest w)) in
-        let l : length (h .blocks) + length (own (u .rest)) ≡ length (w .blocks) = sym (length-append (h .blocks) (own (u .rest))) ∙ ap length (t .1) in
-        let s : blocksFor (sizeOf (h .load)) ≡ blocksFor (sizeOf (w .load)) = ap (λ (x : List ℕ). blocksFor (sizeOf x)) (t .0) in
-        let n : own (u .rest) ≡ [] = empty-rest (own (u .rest)) (omega (arith, k .enough, w .enough)) in
-        let z : u .rest ≡ [] = none-after (v .frames ++ byte-in ∷ []) (u .rest) (w .before) (w .last) (u .frames) (w .last-own) n in
-        u .bytes ∙ ap flatten z
-
-    said : (o : Outcome) → FrameReply (c .room) byte-in o → CallReply c (bs ++ c .byte ∷ []) o
-    said o s = record { frames = v .frames; part = v .part; all-good = v .all-good; whole = longer; says = s }
-
-    acted-after : (g : Good byte-in) → forFirmware byte-in ≡ true → (o : Outcome) → Acts rec udi m (c .room) (c .uds) (own (v .frames)) byte-in o
-        → After c (bs ++ c .byte ∷ []) o
-    acted-after g f o (goes r p q d l a) =
-        goes-on r
+    gathered-after : (x : Step) → Gathers (v .part) b x → AfterGather os (bs ++ b ∷ []) r (afterStep x (at rec udi m (holding (v .part)) (v .progress)))
+    gathered-after x (at-bad p e q) =
+        rw q (bad-header refl refl (λ rest w.
+        let u = further (bs ++ b ∷ []) rest (v .frames) (b ∷ []) (v .all-good) (longer ∙ ap (λ (y : List ℕ). flatten (v .frames) ++ (y ++ b ∷ [])) p) w in
+        no-bad b rest (u .rest) e (u .all-good) (u .bytes)))
+    gathered-after x (at-part p q) =
+        rw (q, is-part byte-in p) (unfinished refl
+        (record {
+          frames = v .frames;
+          part = byte-in;
+          all-good = v .all-good;
+          whole = longer;
+          partial = p;
+          owned = v .owned;
+          progress = v .progress;
+          state = refl;
+          doing = v .doing;
+        }))
+    gathered-after x (at-passed g n q) =
+        rw (q, is-part [] tt) (unfinished refl
         (record {
           frames = v .frames ++ byte-in ∷ [];
           part = [];
           all-good = all-good g;
-          whole = closed-nil;
+          whole = closed ∙ sym (append-nil _);
           partial = tt;
+          owned = own-same (v .frames) byte-in n ∙ v .owned;
+          progress = v .progress;
+          state = refl;
+          doing = v .doing;
+        }))
+    gathered-after x (at-whole g o q) =
+        rw (q, is-whole byte-in g o) (complete refl byte-in
+        (record {
+          frames = v .frames;
+          all-good = all-good g;
+          whole = closed;
+          last-own = o;
+          owned = v .owned;
+          progress = v .progress;
+          state = refl;
+          doing = v .doing;
+        }))
+
+    pub after-gather : gatherRefusal s ≡ 0 → AfterGather os (bs ++ b ∷ []) r (gathered s b)
+    after-gather z =
+        subst (AfterGather os (bs ++ b ∷ []) r) (gather-admitted-as s b (sym z))
+        (subst (λ (t : State). AfterGather os (bs ++ b ∷ []) r (afterStep (byteStep (t .incoming) b) t)) (sym (v .state))
+        (gathered-after (byteStep (holding (v .part)) b) (gathers (v .part) b (v .partial))))
+
+  -- ---- an acting
+
+  pub data AfterAct (os : List (List ℕ)) (f bs : List ℕ) (l : Loan) (o : Outcome) : Type 0 where
+    goes-on : o .report ≡ continues → Live (os ++ f ∷ []) bs (o .state) (o .ram) → length (o .ram) ≡ m → Replies rec udi m (l .room) f o → AfterAct os f bs l o
+    has-started : (w : Starting rec m bs) → Leaves rec udi m (w .load) (w .blocks) (getD (w .last) 0 0) (l .room) (l .uds) o
+        → ((rest : List ℕ) → Starting rec m (bs ++ rest) → rest ≡ []) → AfterAct os f bs l o
+    has-stopped : (k : ℕ) → o .report ≡ stopped k → o .state ≡ ended phase.Stopped m → ((rest : List ℕ) → Starting rec m (bs ++ rest) → ⊥) → AfterAct os f bs l o
+
+  module _ (os : List (List ℕ)) (f bs : List ℕ) (s : State) (l : Loan) (v : Full os f bs s (l .ram)) where
+    whole-nil : bs ≡ flatten (v .frames ++ f ∷ []) ++ []
+    whole-nil = v .whole ∙ sym (append-nil _)
+
+    own-all : own (v .frames ++ f ∷ []) ≡ os ++ f ∷ []
+    own-all = own-more (v .frames) f (v .last-own) ∙ ap (λ (x : List (List ℕ)). x ++ f ∷ []) (v .owned)
+
+    -- the frames after these, when the bytes go on as those of a start
+    module _ (rest : List ℕ) (w : Starting rec m (bs ++ rest)) where
+      abbrev on : Further (v .frames ++ f ∷ []) (w .before ++ w .last ∷ []) rest
+      on = further bs rest (v .frames ++ f ∷ []) [] (v .all-good) whole-nil w
+
+      own-further : (os ++ f ∷ []) ++ own (on .rest) ≡ own (w .before ++ w .last ∷ [])
+      own-further =
+          ap (λ (x : List (List ℕ)). x ++ own (on .rest)) (sym own-all) ∙ sym (own-append (v .frames ++ f ∷ []) (on .rest)) ∙ ap own (sym (on .frames))
+
+      last-start : (h : Shape m (os ++ f ∷ [])) → Complete rec udi m h → rest ≡ []
+      unfolding flatten
+      last-start h k =
+          let t = grows m (os ++ f ∷ []) (own (on .rest)) h (shape-of w _ own-further) in
+          let l : length (h .blocks) + length (own (on .rest)) ≡ length (w .blocks) = sym (length-append (h .blocks) (own (on .rest))) ∙ ap length (t .1) in
+          let s : blocksFor (sizeOf (h .load)) ≡ blocksFor (sizeOf (w .load)) = ap (λ (x : List ℕ). blocksFor (sizeOf x)) (t .0) in
+          let n : own (on .rest) ≡ [] = empty-rest (own (on .rest)) (omega (arith, k .enough, w .enough)) in
+          on .bytes ∙ ap flatten (none-after (v .frames ++ f ∷ []) (on .rest) (w .before) (w .last) (on .frames) (w .last-own) n)
+
+    acted-after : (o : Outcome) → Acts rec udi m (l .room) (l .uds) os f o → AfterAct os f bs l o
+    acted-after o (goes r p q d n a) =
+        goes-on r
+        (record {
+          frames = v .frames ++ f ∷ [];
+          part = [];
+          all-good = v .all-good;
+          whole = whole-nil;
+          partial = tt;
+          owned = own-all;
           progress = p;
           state = q;
-          doing = subst (λ (os : List (List ℕ)). Doing rec udi m (o .ram) os p) (sym (own-more (v .frames) byte-in f)) d;
-        }) l (said o (answers g a))
-    acted-after g f o (starts h k b l) =
+          doing = d;
+        }) n a
+    acted-after o (starts h k b n) =
         has-started
         (record {
           before = v .frames;
-          last = byte-in;
-          all-good = all-good g;
-          nothing-left = closed;
-          last-own = f;
+          last = f;
+          all-good = v .all-good;
+          nothing-left = v .whole;
+          last-own = v .last-own;
           last-block = b;
           opening = h .opening;
           load = h .load;
           blocks = h .blocks;
-          order = own-more (v .frames) byte-in f ∙ h .order;
+          order = own-all ∙ h .order;
           opens = h .opens;
           loads = h .loads;
           carry = h .carry;
           enough = k .enough;
           allowed = k .digest;
-        }) l (last-start g f h k)
-    acted-after g f o (stops k r q no-start) =
+        }) n (λ rest w. last-start rest w h k)
+    acted-after o (stops k r q no-start) =
         has-stopped k r q (λ rest w.
-        no-start (own (further (bs ++ c .byte ∷ []) rest (v .frames ++ byte-in ∷ []) [] (all-good g) closed-nil w .rest)) (shape-of w _ (own-further g f rest w))
-        (record { enough = w .enough; digest = w .allowed }))
+        no-start (own (on rest w .rest)) (shape-of w _ (sym (append-assoc os (f ∷ []) _) ∙ own-further rest w)) (record { enough = w .enough; digest = w .allowed }))
 
-    gathered-after : (x : Gathered) → Gathers (v .part) (c .byte) x
-        → After c (bs ++ c .byte ∷ []) (afterByte (x .step) (withIncoming (at rec udi m (holding (v .part)) (v .progress)) (x .incoming)) (c .room) (c .ram) (c .uds))
-    gathered-after x (at-bad p e q) =
-        rw q (has-stopped 22 refl refl (λ rest w.
-        let u = further (bs ++ c .byte ∷ []) rest (v .frames) (c .byte ∷ []) (v .all-good) (longer ∙ ap (λ (y : List ℕ). flatten (v .frames) ++ (y ++ c .byte ∷ [])) p) w in
-        no-bad (c .byte) rest (u .rest) e (u .all-good) (u .bytes)))
-    gathered-after x (at-part p q) =
-        rw q (goes-on refl
-        (record { frames = v .frames; part = byte-in; all-good = v .all-good; whole = longer; partial = p; progress = v .progress; state = refl; doing = v .doing }) fits
-        (said _ (within p refl)))
-    gathered-after x (at-passed g n q) =
-        rw q (goes-on refl
-        (record {
-          frames = v .frames ++ byte-in ∷ [];
-          part = [];
-          all-good = all-good g;
-          whole = closed-nil;
-          partial = tt;
-          progress = v .progress;
-          state = refl;
-          doing = subst (λ (os : List (List ℕ)). Doing rec udi m (c .ram) os (v .progress)) (sym (own-same (v .frames) byte-in n)) (v .doing);
-        }) fits (said _ (passed n refl)))
-    gathered-after x (at-whole g f q) =
-        rw q (acted-after g f _ (acts rec udi m (c .room) (c .ram) (c .uds) fits (own (v .frames)) byte-in f g (v .progress) (v .doing)))
-
-    pub after : After c (bs ++ c .byte ∷ []) (processed s (c .byte) (c .room) (c .ram) (c .uds))
-    unfolding processed
-    after =
-        subst (λ (t : State). After c (bs ++ c .byte ∷ []) (afterByte (gathered (t .incoming) (c .byte) .step) (withIncoming t (gathered (t .incoming) (c .byte) .incoming)) (c .room) (c .ram) (c .uds)))
-        (sym (v .state)) (gathered-after (gathered (holding (v .part)) (c .byte)) (gathers (v .part) (c .byte) (v .partial)))
+    pub after-act : actRefusal s (length (l .room)) (length (l .ram)) (length (l .uds)) ≡ 0 → AfterAct os f bs l (acted s (l .room) (l .ram) (l .uds))
+    after-act z =
+        let fits = act-admitted s (length (l .room)) (length (l .ram)) (length (l .uds)) z .ram-same ∙ ap (λ (t : State). t .config .«ram_len») (v .state) in
+        subst (AfterAct os f bs l) (act-admitted-as s (l .room) (l .ram) (l .uds) (sym z))
+        (subst (λ (t : State). AfterAct os f bs l (performed (requestOf t) t (l .room) (l .ram) (l .uds))) (sym (v .state))
+        (acted-after _ (acts rec udi m (l .room) (l .ram) (l .uds) fits os f (v .last-own) (All-last Good (v .frames) f [] (v .all-good)) (v .progress) (v .doing))))

@@ -66,7 +66,7 @@ module _ (prog : List ℕ) (id : ℕ) (secret : Secret) (made : Made prog id sec
   pub frame-suc : (k : ℕ) → frame prog id secret (suc k) ≡ block-frame k
   frame-suc k = rw (ne-eqb (suc k) 0 (λ z. omega arith), suc-sub-suc k 0, sub-zero)
 
-  pub frame-header : headerAt (commandHeader id) ≡ good id firmware 128
+  frame-header : headerAt (commandHeader id) ≡ good id firmware 128
   frame-header = client .header id id-small
 
   pub is-own : eqb (inField endpoint (commandHeader id)) firmware ≡ true

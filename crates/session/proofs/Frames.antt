@@ -10,7 +10,7 @@ use Rattle.framing.specs.Header.{good}
 use Rattle.endian.specs.Lists.{All}
 use Rattle.session.specs.Reading.{Good, forFirmware, own}
 
-pub append-split : {A : Type 0} (a b x y : List A) → length a ≡ length b → a ++ x ≡ b ++ y → (a ≡ b) × (x ≡ y)
+append-split : {A : Type 0} (a b x y : List A) → length a ≡ length b → a ++ x ≡ b ++ y → (a ≡ b) × (x ≡ y)
 append-split [] [] x y h e = (refl, e)
 append-split [] (q ∷ b) x y h e = absurd (omega arith)
 append-split (p ∷ a) [] x y h e = absurd (omega arith)
@@ -63,6 +63,13 @@ good-lengths h p q a b =
 -- a good frame is not empty
 pub good-some : Good [] → ⊥
 good-some g = let e : 0 ≡ 1 + g .n = g .whole in omega arith
+
+-- no bytes are no frames
+pub no-frames : (hs : List (List ℕ)) → All Good hs → [] ≡ flatten hs → hs ≡ []
+unfolding flatten
+no-frames [] a e = refl
+no-frames ([] ∷ hs) a e = absurd (good-some (a .0))
+no-frames ((h ∷ f) ∷ hs) a e = impossible cc
 
 -- ---- one reading
 

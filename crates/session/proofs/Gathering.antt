@@ -1,26 +1,24 @@
 -- What gathering a byte makes of the part of a frame that has come: what is gathered is a function of that part.
-use Prim.Native.Nat.{ℕ, _+_, _-_, _<_}
-use mathlib.Core.Path.{_≡_, refl, ap}
-use mathlib.Core.Bool.{Bool, true, false, cond}
+use Prim.Native.Nat.{ℕ, suc, _+_, _-_, _<_}
+use mathlib.Core.Path.{_≡_, refl, sym, ap, _∙_}
+use mathlib.Core.Bool.{Bool, true, false, not, cond, _&&_}
 use mathlib.Core.List.{List, [], _∷_, _++_}
 use native.Mathlib.Omega.{arith}
-use lib.Dec.{eqb, ltb}
+use lib.Dec.{eqb}
 use lib.ListN.{length, set, drop, length-append}
-use borrow.Author.Tests.{ne-eqb, ltb-true, ltb-false}
+use borrow.Author.Tests.{eqb-true, eqb-false, eq-eqb, ne-eqb}
 use Rattle.endian.proofs.Cases.{impossible}
 use Rattle.framing.specs.Header.{Reading, good, stop, headerAt, inField, endpoint, bodyLen}
 use Rattle.framing.proofs.Headers.{by-bits, body-small, fields-of}
 use Rattle.endian.specs.Lists.{zeros}
-use Rattle.head.specs.State.{idle}
-use Rattle.head.specs.Gather.{withByte, gathered}
+use Rattle.head.specs.State.{wholeBy, isWhole, idle}
+use Rattle.head.specs.Gather.{Step, taken, bad, withByte, byteStep}
 use Rattle.head.proofs.Ranges.{length-some}
 use Rattle.session.specs.Reading.{Good, forFirmware}
 use Rattle.head.specs.declared.Incoming.{Incoming}
-use Rattle.head.specs.declared.Step.the-variants.{More, Whole, Bad}
-use Rattle.head.specs.declared.Gathered.{Gathered}
 
 -- the bytes p of a frame with header h, kept if it is for the firmware
-abbrev pub bodyHeld : ℕ → List ℕ → List ℕ
+abbrev bodyHeld : ℕ → List ℕ → List ℕ
 bodyHeld h p = cond (forFirmware (h ∷ [])) (p ++ drop (length p) (zeros 128)) (zeros 128)
 
 abbrev pub holding : List ℕ → Incoming
@@ -39,12 +37,35 @@ abbrev pub Partial : List ℕ → Type 0
 Partial [] = Unit {0}
 Partial (h ∷ p) = Begins h p
 
--- what gathering b makes of the part p
-pub data Gathers (p : List ℕ) (b : ℕ) (g : Gathered) : Type 0 where
-  at-bad : p ≡ [] → headerAt b ≡ stop 22 → g .step ≡ Bad → Gathers p b g
-  at-part : Partial (p ++ b ∷ []) → g ≡ record { step = More; incoming = holding (p ++ b ∷ []) } → Gathers p b g
-  at-passed : Good (p ++ b ∷ []) → forFirmware (p ++ b ∷ []) ≡ false → g ≡ record { step = More; incoming = idle } → Gathers p b g
-  at-whole : Good (p ++ b ∷ []) → forFirmware (p ++ b ∷ []) ≡ true → g ≡ record { step = Whole; incoming = holding (p ++ b ∷ []) } → Gathers p b g
+-- ---- whether a frame is whole
+
+whole-is : (h got id ep n : ℕ) → headerAt h ≡ good id ep n → wholeBy (headerAt h) got ≡ forFirmware (h ∷ []) && eqb got (n + 1)
+whole-is h got id ep n e =
+    ap (λ (r : Reading). wholeBy r got) e ∙ ap (λ (x : ℕ). eqb x 2 && eqb got (n + 1)) (sym (fields-of h id ep n e .1))
+
+pub is-part : (p : List ℕ) → Partial p → isWhole (holding p) ≡ false
+unfolding headerAt
+is-part [] v = refl
+is-part (h ∷ p) v = whole-is h (length p + 1) (v .id) (v .ep) (v .n) (v .header) ∙ go (forFirmware (h ∷ []))
+  where
+    go : (t : Bool) → t && eqb (length p + 1) (v .n + 1) ≡ false
+    go true = ne-eqb (length p + 1) (v .n + 1) (λ e. let s = v .short in omega arith)
+    go false = refl
+
+pub is-whole : (f : List ℕ) → Good f → forFirmware f ≡ true → isWhole (holding f) ≡ true
+is-whole [] g o = absurd (let e : 0 ≡ 1 + g .n = g .whole in omega arith)
+is-whole (h ∷ p) g o =
+    let l : suc (length p) ≡ 1 + g .n = g .whole in
+    whole-is h (length p + 1) (g .id) (g .ep) (g .n) (g .header) ∙ rw (o, eq-eqb (length p + 1) (g .n + 1) (omega arith))
+
+-- ---- one more byte
+
+-- what the byte b makes of the part p
+pub data Gathers (p : List ℕ) (b : ℕ) (x : Step) : Type 0 where
+  at-bad : p ≡ [] → headerAt b ≡ stop 22 → x ≡ bad → Gathers p b x
+  at-part : Partial (p ++ b ∷ []) → x ≡ taken (holding (p ++ b ∷ [])) → Gathers p b x
+  at-passed : Good (p ++ b ∷ []) → forFirmware (p ++ b ∷ []) ≡ false → x ≡ taken idle → Gathers p b x
+  at-whole : Good (p ++ b ∷ []) → forFirmware (p ++ b ∷ []) ≡ true → x ≡ taken (holding (p ++ b ∷ [])) → Gathers p b x
 
 pub length-snoc : {A : Type 0} (p : List A) (b : A) → length (p ++ b ∷ []) ≡ length p + 1
 length-snoc p b = length-append p (b ∷ [])
@@ -59,13 +80,13 @@ bad-is : (h : ℕ) (k : ℕ) → headerAt h ≡ stop k → headerAt h ≡ stop 2
 bad-is h k =
     by-bits h (λ (r : Reading). r ≡ stop k → r ≡ stop 22) (λ p q e. impossible cc) (λ g e. refl)
 
-opening : (b : ℕ) (r : Reading) → headerAt b ≡ r → Gathers [] b (gathered idle b)
-unfolding gathered
+opening : (b : ℕ) (r : Reading) → headerAt b ≡ r → Gathers [] b (byteStep idle b)
+unfolding byteStep
 opening b (good id ep n) e =
     at-part (record { id = id; ep = ep; n = n; header = e; short = length-some b id ep n e }) (rw e (go (forFirmware (b ∷ []))))
   where
-    go : (t : Bool) → _≡_ {A = Gathered} (record { step = More; incoming = record { header = b; got = 1; body = zeros 128 } })
-        (record { step = More; incoming = record { header = b; got = 0 + 1; body = cond t (zeros 128) (zeros 128) } })
+    go : (t : Bool) → taken (record { header = b; got = 1; body = zeros 128 })
+        ≡ taken (record { header = b; got = 0 + 1; body = cond t (zeros 128) (zeros 128) })
     go true = refl
     go false = refl
 opening b (stop k) e = at-bad refl (bad-is b k e) (rw e refl)
@@ -75,7 +96,12 @@ with-byte : (h : ℕ) (p : List ℕ) (b : ℕ) → length p < 128 → withByte (
 with-byte h p b l = go (forFirmware (h ∷ []))
   where
     go : (t : Bool)
-        → _≡_ {A = Incoming} (record { header = h; got = length p + 1 + 1; body = cond t (set (cond t (p ++ drop (length p) (zeros 128)) (zeros 128)) (length p + 1 - 1) b) (cond t (p ++ drop (length p) (zeros 128)) (zeros 128)) })
+        → _≡_ {A = Incoming}
+        (record {
+          header = h;
+          got = length p + 1 + 1;
+          body = cond t (set (cond t (p ++ drop (length p) (zeros 128)) (zeros 128)) (length p + 1 - 1) b) (cond t (p ++ drop (length p) (zeros 128)) (zeros 128));
+        })
         (record { header = h; got = length (p ++ b ∷ []) + 1; body = cond t ((p ++ b ∷ []) ++ drop (length (p ++ b ∷ [])) (zeros 128)) (zeros 128) })
     go true =
         let e : length p + 1 - 1 ≡ length p = omega arith in
@@ -83,32 +109,34 @@ with-byte h p b l = go (forFirmware (h ∷ []))
         rw (e, s, length-snoc p b)
     go false = rw (length-snoc p b)
 
-more : (h : ℕ) (p : List ℕ) (b : ℕ) (v : Begins h p) → Gathers (h ∷ p) b (gathered (holding (h ∷ p)) b)
-unfolding gathered
+more : (h : ℕ) (p : List ℕ) (b : ℕ) (v : Begins h p) → Gathers (h ∷ p) b (byteStep (holding (h ∷ p)) b)
+unfolding byteStep
 more h p b v =
     rw (ne-eqb (length p + 1) 0 (λ z. omega arith), v .header, ← fields-of h (v .id) (v .ep) (v .n) (v .header) .1, with-byte h p b fits)
-    (go (ltb (length p + 1) (v .n)) refl (eqb (inField endpoint h) 2) refl)
+    (go (eqb (inField endpoint h) 2) refl (eqb (length p + 1) (v .n)) refl)
   where
     fits : length p < 128
     fits = let e : bodyLen (headerAt h) ≡ v .n = ap bodyLen (v .header) in omega (arith, body-small h, v .short)
 
-    whole : ltb (length p + 1) (v .n) ≡ false → Good (h ∷ (p ++ b ∷ []))
+    whole : eqb (length p + 1) (v .n) ≡ true → Good (h ∷ (p ++ b ∷ []))
     whole e =
-        let l = ltb-false (length p + 1) (v .n) e in
+        let l = eqb-true (length p + 1) (v .n) e in
         let s = length-snoc p b in
-        record { id = v .id; ep = v .ep; n = v .n; header = v .header; whole = omega (arith, v .short) }
+        record { id = v .id; ep = v .ep; n = v .n; header = v .header; whole = omega arith }
 
-    go : (t : Bool) → ltb (length p + 1) (v .n) ≡ t → (o : Bool) → eqb (inField endpoint h) 2 ≡ o
-        → Gathers (h ∷ p) b
-        (cond t (record { step = More; incoming = holding (h ∷ (p ++ b ∷ [])) })
-        (cond o (record { step = Whole; incoming = holding (h ∷ (p ++ b ∷ [])) }) (record { step = More; incoming = idle })))
-    go true e o f =
-        let l = ltb-true (length p + 1) (v .n) e in
+    part : eqb (length p + 1) (v .n) ≡ false → Begins h (p ++ b ∷ [])
+    part e =
+        let l = eqb-false (length p + 1) (v .n) e in
         let s = length-snoc p b in
-        at-part (record { id = v .id; ep = v .ep; n = v .n; header = v .header; short = omega arith }) refl
-    go false e true f = at-whole (whole e) f refl
-    go false e false f = at-passed (whole e) f refl
+        record { id = v .id; ep = v .ep; n = v .n; header = v .header; short = omega (arith, v .short, l) }
 
-pub gathers : (p : List ℕ) (b : ℕ) → Partial p → Gathers p b (gathered (holding p) b)
+    go : (o : Bool) → eqb (inField endpoint h) 2 ≡ o → (t : Bool) → eqb (length p + 1) (v .n) ≡ t
+        → Gathers (h ∷ p) b (taken (cond (not o && t) idle (holding (h ∷ (p ++ b ∷ [])))))
+    go true f true e = at-whole (whole e) f refl
+    go true f false e = at-part (part e) refl
+    go false f true e = at-passed (whole e) f refl
+    go false f false e = at-part (part e) refl
+
+pub gathers : (p : List ℕ) (b : ℕ) → Partial p → Gathers p b (byteStep (holding p) b)
 gathers [] b v = opening b (headerAt b) refl
 gathers (h ∷ p) b v = more h p b v

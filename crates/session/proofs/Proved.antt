@@ -1,13 +1,12 @@
 -- Verified boot (specs/Boot.antt): each claim about a session from the walk over its calls.
-use Prim.Native.Nat.{ℕ, _+_, _≤_}
+use Prim.Native.Nat.{ℕ, _≤_}
 use mathlib.Core.Path.{_≡_, refl, sym, ap, _∙_, subst}
-use mathlib.Core.Logic.{_⊎_, inl, inr, _↔_}
-use mathlib.Core.Bool.{Bool, true, false, cond, _||_}
+use mathlib.Core.Logic.{_⊎_, _↔_}
+use mathlib.Core.Bool.{Bool, true, false, cond, or-false}
 use mathlib.Core.Option.{none, some}
-use mathlib.Core.List.{List, [], _∷_, _++_, append-nil, tail-eq-of-cons-eq, head-eq-of-cons-eq, List·Memᴰ, List·Memᴰ·head, List·Memᴰ·tail, List·Memᴰ·not-nil, List·Memᴰ·cases-cons, flatten}
+use mathlib.Core.List.{List, [], _∷_, _++_, append-nil, tail-eq-of-cons-eq, head-eq-of-cons-eq, flatten}
 use native.Mathlib.Omega.{arith}
 use lib.ListN.{length, getD, replicate, length-append}
-use Rattle.endian.proofs.Cases.{impossible}
 use Rattle.rfc7693.specs.Rfc7693.{blake2s}
 use Rattle.endian.specs.Endian.{bytes}
 use Rattle.cdi.specs.Cdi.{cdiString}
@@ -20,43 +19,28 @@ use Rattle.record.specs.Record.{typeField, numberIn}
 use Rattle.client.specs.Frames.{secretOf}
 use Rattle.client.proofs.Proved as making
 use Rattle.client.specs.declared.Secret.{Secret}
-use Rattle.head.specs.State.{live}
-use Rattle.head.specs.Answers.{refused}
+use Rattle.head.specs.State.{isWhole, live}
+use Rattle.head.specs.Answers.{refused, Outcome}
 use Rattle.head.specs.Begin.{waiting, beginning}
 use Rattle.endian.proofs.Words.{bytes-length}
 use Rattle.head.proofs.Proved.{head-theorems}
-use Rattle.endian.specs.Lists.{All, Words}
-use Rattle.session.specs.Reading.{Good, own, digestOf, Allowed, chained, measuredId, Starting}
-use Rattle.session.specs.Session.{Entry, Among, isAccepted, receivedBytes, Session, allOf, acceptedOf, hasEnded, refusalIn}
+use Rattle.endian.specs.Lists.{Words}
+use Rattle.session.specs.Reading.{own, digestOf, Allowed, chained, measuredId, Starting}
+use Rattle.session.specs.Session.{Loan, Call, Entry, acts, callOf, reportIn, Among, log, isAccepted, accepted, gatheredBytes, Session, allOf, acceptedOf, hasEnded, lastIs, isActing, completes, frameIsWhole, refusalIn}
 use Rattle.session.specs.Client.{frames, Made}
-use Rattle.session.specs.Boot.{StartedAt, Started, Reads, used, Start, stringAt, Gives, Same, StartOf, VerifiedBoot}
-use Rattle.session.proofs.Frames.{reads-on, good-some}
+use Rattle.session.specs.Boot.{StartedAt, Started, Reads, ActedOn, used, Start, stringAt, Gives, Same, StartOf, VerifiedBoot}
+use Rattle.session.proofs.Frames.{reads-on, no-frames}
 use Rattle.session.proofs.Shapes.{one-shape}
 use Rattle.session.proofs.Acting.{is-waiting, Leaves}
 use Rattle.session.proofs.Calls.{Live}
-use Rattle.session.proofs.Walk.{Walk, walk, Begun}
+use Rattle.session.proofs.Gathering.{is-part}
+use Rattle.session.proofs.Entries.{lastFrom, last-from}
+use Rattle.session.proofs.Walk.{is-live, Begun, Walk, walk}
 use Rattle.session.proofs.Begins.{Fresh, fresh, Runs, table-from}
 use Rattle.session.proofs.ClientFrames as made
-use Rattle.session.proofs.Sending.{callsFor, one-ram, same-uds, AllAccepted, all-accepted}
+use Rattle.session.proofs.Sending.{callsFor, AllAccepted, all-accepted}
 use Rattle.session.proofs.Strings.{same-words, digest-length, id-length, uss-length, same-secret}
 use Rattle.head.specs.declared.State.{State}
-
--- ---- one of a list of calls
-
-mem-at : (before after : List Entry) (e : Entry) → List·Memᴰ e (before ++ e ∷ after)
-mem-at [] after e = List·Memᴰ·head refl
-mem-at (x ∷ before) after e = List·Memᴰ·tail (mem-at before after e)
-
-mem-of : (l : List Entry) (e : Entry) → Among e l → List·Memᴰ e l
-mem-of l e i = subst (List·Memᴰ e) (sym (i .place)) (mem-at (i .before) (i .after) e)
-
-among-of : (l : List Entry) (e : Entry) → List·Memᴰ e l → Among e l
-among-of [] e i = absurd (List·Memᴰ·not-nil i)
-among-of (x ∷ l) e i = go (List·Memᴰ·cases-cons i) (λ j. among-of l e j)
-  where
-    go : (e ≡ x) ⊎ List·Memᴰ e l → (List·Memᴰ e l → Among e l) → Among e (x ∷ l)
-    go (inl q) f = record { before = []; after = l; place = ap (λ (y : Entry). y ∷ l) (sym q) }
-    go (inr j) f = let s = f j in record { before = x ∷ s .before; after = s .after; place = ap (λ (y : List Entry). x ∷ y) (s .place) }
 
 -- ---- one reading
 
@@ -65,12 +49,6 @@ last-same [] [] a b e = head-eq-of-cons-eq e
 last-same [] (y ∷ ys) a b e = absurd (let l : 0 ≡ length (ys ++ b ∷ []) = ap length (tail-eq-of-cons-eq e) in let k = length-append ys (b ∷ []) in omega arith)
 last-same (x ∷ xs) [] a b e = absurd (let l : length (xs ++ a ∷ []) ≡ 0 = ap length (tail-eq-of-cons-eq e) in let k = length-append xs (a ∷ []) in omega arith)
 last-same (x ∷ xs) (y ∷ ys) a b e = last-same xs ys a b (tail-eq-of-cons-eq e)
-
-no-frames : (hs : List (List ℕ)) → All Good hs → [] ≡ flatten hs → hs ≡ []
-unfolding flatten
-no-frames [] a e = refl
-no-frames ([] ∷ hs) a e = absurd (good-some (a .0))
-no-frames ((h ∷ f) ∷ hs) a e = impossible cc
 
 module _ (rec : List ℕ) (m : ℕ) (received : List ℕ) (w w′ : Starting rec m received) where
   same-frames : w .before ++ w .last ∷ [] ≡ w′ .before ++ w′ .last ∷ []
@@ -94,57 +72,62 @@ one-string rec uds l l′ b b′ p q = rw (p, q)
 
 -- ---- a session
 
-pub first-live : (rec udi : List ℕ) (m : ℕ) (r : List ℕ) → Fresh rec udi m → Live rec udi m [] (beginning rec udi m .state) r
+pub first-live : (rec udi : List ℕ) (m : ℕ) (r : List ℕ) → Fresh rec udi m → Live rec udi m [] [] (beginning rec udi m .state) r
 unfolding flatten
 first-live rec udi m r f =
-    record { frames = []; part = []; all-good = tt; whole = refl; partial = tt; progress = waiting; state = f .state; doing = is-waiting tt }
+    record { frames = []; part = []; all-good = tt; whole = refl; partial = tt; owned = refl; progress = waiting; state = f .state; doing = is-waiting tt }
 
-first-runs : (rec udi : List ℕ) (m : ℕ) → Fresh rec udi m → Runs m (beginning rec udi m .state) false
+first-runs : (rec udi : List ℕ) (m : ℕ) → Fresh rec udi m → Runs m (beginning rec udi m .state) false false
 first-runs rec udi m f =
     record {
       range = head-theorems .begun rec udi m;
       ram = ap (λ (s : State). s .config .«ram_len») (f .state);
       goes = ap (λ (s : State). live (s .progress .phase)) (f .state);
+      holds = ap (λ (s : State). isWhole (s .incoming)) (f .state) ∙ is-part [] tt;
     }
 
 module _ (S : Session) where
   pub begins : Fresh (S .rec) (S .udi) (S .ramLen)
   begins = fresh (S .rec) (S .udi) (S .ramLen) (S .begins) (S .client)
 
-  walked : Walk (S .rec) (S .udi) (S .ramLen) [] (acceptedOf S)
-  walked = walk (S .rec) (S .udi) (S .ramLen) (S .calls) [] _ (S .ram) (first-live (S .rec) (S .udi) (S .ramLen) (S .ram) begins) (S .one-ram)
+  walked : Walk (S .rec) (S .udi) (S .ramLen) false [] (acceptedOf S)
+  walked =
+      walk (S .rec) (S .udi) (S .ramLen) (S .calls) [] false [] _ (S .ram) (is-live (first-live (S .rec) (S .udi) (S .ramLen) (S .ram) begins)) (S .one-ram)
 
-  begun : (e : Entry) → StartedAt S e → Begun (S .rec) (S .udi) (S .ramLen) (receivedBytes (acceptedOf S)) e
-  begun e t = walked .only e (mem-of (acceptedOf S) e (t .among)) (record { address = t .address; size = t .size; answers = t .answers })
+  begun : (l : Loan) (o : Outcome) → StartedAt S l o
+      → Begun (S .rec) (S .udi) (S .ramLen) (gatheredBytes (acceptedOf S)) l o × (lastFrom isActing false (acceptedOf S) ≡ true)
+  begun l o t = walked .only l o (t .among) (record { address = t .address; size = t .size; answers = t .answers })
 
-  pub exactly : Started S ↔ Reads S
+  pub exactly : Started S ↔ (Reads S × ActedOn S)
   exactly = (
-    λ t. begun (t .0) (t .1) .reading,
-    λ w. let t = walked .whenever w in (t .0, record { among = among-of (acceptedOf S) (t .0) (t .1); address = t .2 .address; size = t .2 .size; answers = t .2 .answers }),
+    λ t. let b = begun (t .0) (t .1) (t .2) in (b .0 .reading, last-from isActing (acceptedOf S) ∙ b .1),
+    λ w.
+        let t = walked .whenever (w .0) (sym (last-from isActing (acceptedOf S)) ∙ w .1) in
+        (t .0, t .1, record { among = t .2; address = t .3 .address; size = t .3 .size; answers = t .3 .answers }),
   )
 
   module _ (t : Start S) where
-    leaves : Leaves (S .rec) (S .udi) (S .ramLen) (t .reading .load) (t .reading .blocks) (getD (t .reading .last) 0 0) (t .entry .call .room) (t .entry .call .uds) (t .entry .out)
+    leaves : Leaves (S .rec) (S .udi) (S .ramLen) (t .reading .load) (t .reading .blocks) (getD (t .reading .last) 0 0) (t .loan .room) (t .loan .uds) (t .out)
     leaves =
-        let b = begun (t .entry) (t .started-at) in
-        let o = one-reading (S .rec) (S .ramLen) (receivedBytes (acceptedOf S)) (b .reading) (t .reading) in
-        let l = one-last (S .rec) (S .ramLen) (receivedBytes (acceptedOf S)) (b .reading) (t .reading) in
-        subst (λ (f : List ℕ). Leaves (S .rec) (S .udi) (S .ramLen) (t .reading .load) (t .reading .blocks) (getD f 0 0) (t .entry .call .room) (t .entry .call .uds) (t .entry .out)) l
-        (subst (λ (f : List (List ℕ)). Leaves (S .rec) (S .udi) (S .ramLen) (t .reading .load) f (getD (b .reading .last) 0 0) (t .entry .call .room) (t .entry .call .uds) (t .entry .out)) (o .2)
-        (subst (λ (f : List ℕ). Leaves (S .rec) (S .udi) (S .ramLen) f (b .reading .blocks) (getD (b .reading .last) 0 0) (t .entry .call .room) (t .entry .call .uds) (t .entry .out)) (o .1)
+        let b = begun (t .loan) (t .out) (t .started-at) .0 in
+        let o = one-reading (S .rec) (S .ramLen) (gatheredBytes (acceptedOf S)) (b .reading) (t .reading) in
+        let l = one-last (S .rec) (S .ramLen) (gatheredBytes (acceptedOf S)) (b .reading) (t .reading) in
+        subst (λ (f : List ℕ). Leaves (S .rec) (S .udi) (S .ramLen) (t .reading .load) (t .reading .blocks) (getD f 0 0) (t .loan .room) (t .loan .uds) (t .out)) l
+        (subst (λ (f : List (List ℕ)). Leaves (S .rec) (S .udi) (S .ramLen) (t .reading .load) f (getD (b .reading .last) 0 0) (t .loan .room) (t .loan .uds) (t .out)) (o .2)
+        (subst (λ (f : List ℕ). Leaves (S .rec) (S .udi) (S .ramLen) f (b .reading .blocks) (getD (b .reading .last) 0 0) (t .loan .room) (t .loan .uds) (t .out)) (o .1)
         (b .leaves)))
 
     -- what its CDI is derived from
     inputs : Inputs
     inputs =
         record {
-          uds = bytes (t .entry .call .uds);
+          uds = bytes (t .loan .uds);
           chained = chained (S .rec);
           measuredId = measuredId (S .rec);
           digest = digestOf (t .reading .load) (t .reading .blocks);
           used = used (t .reading);
           uss = loadIn (t .reading .load) .uss;
-          uds-length = bytes-length 32 (t .entry .call .uds);
+          uds-length = bytes-length 32 (t .loan .uds);
           measuredId-length = id-length (S .rec) (begins .size);
           digest-length = digest-length _;
           uss-length = uss-length (t .reading .load) (t .reading .loads .0);
@@ -162,26 +145,22 @@ module _ (S : Session) where
           front = l .front;
           reply = l .reply;
           room = l .room-after;
-          eight = begun (t .entry) (t .started-at) .eight;
+          eight = begun (t .loan) (t .out) (t .started-at) .0 .eight;
           cleared = l .cleared;
         }
 
   pub table : (e : Entry) (i : Among e (allOf S)) (k : ℕ)
-      → (e .out .report ≡ refused k) ↔ ((k ≡ refusalIn (hasEnded (i .before)) (S .ramLen) (e .call)) × (k ≡ 0 → ⊥))
+      → (reportIn e ≡ refused k) ↔ ((k ≡ refusalIn (hasEnded (i .before)) (frameIsWhole (i .before)) (S .ramLen) (callOf e)) × (k ≡ 0 → ⊥))
   table e i k =
-      subst (λ (o : Bool). (e .out .report ≡ refused k) ↔ ((k ≡ refusalIn o (S .ramLen) (e .call)) × (k ≡ 0 → ⊥))) (or-false (hasEnded (i .before)))
-      (table-from (S .ramLen) (S .calls) (beginning (S .rec) (S .udi) (S .ramLen) .state) false (first-runs (S .rec) (S .udi) (S .ramLen) begins) (i .before) (i .after) e (i .place) k)
-    where
-      or-false : (x : Bool) → x || false ≡ x
-      or-false true = refl
-      or-false false = refl
+      rw (← or-false (hasEnded (i .before)), last-from completes (accepted (i .before)))
+      (table-from (S .ramLen) (S .calls) _ false false (first-runs (S .rec) (S .udi) (S .ramLen) begins) (i .before) (i .after) e (i .place) k)
 
 pub injective : (S S′ : Session) (t : Start S) (t′ : Start S′) → stringAt t ≡ stringAt t′ → Same t t′
 unfolding inputs
 injective S S′ t t′ e =
     let i = cdi .injective (inputs S t) (inputs S′ t′) e in
     record {
-      uds = same-words (t .entry .call .uds) (t′ .entry .call .uds) (gives S t .eight) (gives S′ t′ .eight) (t .entry .call .words) (t′ .entry .call .words) (i .0);
+      uds = same-words (t .loan .uds) (t′ .loan .uds) (gives S t .eight) (gives S′ t′ .eight) (t .loan .words) (t′ .loan .words) (i .0);
       chaining = i .1;
       measured = i .2;
       secret = same-secret (used (t .reading)) (used (t′ .reading)) _ _ (i .3) (i .4);
@@ -198,6 +177,14 @@ module _ (rec udi ram uds prog : List ℕ) (id : ℕ) (secret : Secret) (makes :
   abbrev sent : List ℕ
   sent = flatten (frames prog id secret)
 
+  abbrev sent-calls : List Call
+  sent-calls = callsFor uds typed sent (beginning rec udi (length ram) .state) ram
+
+  pub sent-accepted : AllAccepted uds typed sent ram false (log (beginning rec udi (length ram) .state) sent-calls)
+  sent-accepted =
+      all-accepted uds typed rec udi (length ram) eight sent [] [] (beginning rec udi (length ram) .state) ram false (first-live rec udi (length ram) ram fresh-head)
+      (first-runs rec udi (length ram) fresh-head) refl (made.reading prog id secret makes rec (length ram) fits allows sent refl)
+
   -- the session in which the head is sent these frames
   abbrev pub session : Session
   session =
@@ -207,21 +194,19 @@ module _ (rec udi ram uds prog : List ℕ) (id : ℕ) (secret : Secret) (makes :
         ramLen = length ram;
         begins = accepts;
         client = client;
-        calls = callsFor uds typed sent (beginning rec udi (length ram) .state) ram;
+        calls = sent-calls;
         ram = ram;
-        one-ram = one-ram uds typed sent (beginning rec udi (length ram) .state) ram;
+        one-ram = rw (sent-accepted .none-refused) (sent-accepted .one-ram);
       }
 
-  pub sent-accepted : AllAccepted uds typed rec udi (length ram) eight sent (allOf session)
-  sent-accepted =
-      all-accepted uds typed rec udi (length ram) eight sent [] (beginning rec udi (length ram) .state) ram (first-live rec udi (length ram) ram fresh-head)
-      (first-runs rec udi (length ram) fresh-head) refl (made.reading prog id secret makes rec (length ram) fits allows sent refl)
+  pub all-acted : lastIs isActing (allOf session) ≡ true
+  all-acted = last-from isActing (allOf session) ∙ sent-accepted .acted-on
 
-  all-received : receivedBytes (acceptedOf session) ≡ sent
-  all-received = ap receivedBytes (sent-accepted .none-refused) ∙ sent-accepted .all-bytes
+  all-received : gatheredBytes (acceptedOf session) ≡ sent
+  all-received = ap gatheredBytes (sent-accepted .none-refused) ∙ sent-accepted .all-bytes
 
   abbrev reading : Reads session
-  reading = made.reading prog id secret makes rec (length ram) fits allows (receivedBytes (acceptedOf session)) all-received
+  reading = made.reading prog id secret makes rec (length ram) fits allows (gatheredBytes (acceptedOf session)) all-received
 
   -- the flag of the load says whether there is a user secret
   secret-of : (l : Load) (v : Bool) → l ≡ loadWith (length prog) (cond v 1 0) (cond v (secret .uss) (replicate 32 0))
@@ -231,17 +216,17 @@ module _ (rec udi ram uds prog : List ℕ) (id : ℕ) (secret : Secret) (makes :
 
   started : StartOf rec udi ram uds prog (cond (secret .used) (some (secret .uss)) none)
   started =
-      let t = exactly session .1 reading in
+      let t = exactly session .1 (reading, ap (lastIs isActing) (sent-accepted .none-refused) ∙ all-acted) in
       record {
         session = session;
-        start = record { entry = t .0; started-at = t .1; reading = reading };
+        start = record { loan = t .0; out = t .1; started-at = t .2; reading = reading };
         same-record = refl;
         same-udi = refl;
         same-length = refl;
         same-ram = refl;
-        same-uds = same-uds uds typed sent (beginning rec udi (length ram) .state) ram (t .0) (subst (List·Memᴰ (t .0)) (sent-accepted .none-refused) (mem-of (acceptedOf session) (t .0) (t .1 .among)));
-        same-program = made.reading-program prog id secret makes rec (length ram) fits allows (receivedBytes (acceptedOf session)) all-received;
-        same-secret = secret-of (loadIn (reading .load)) (secret .used) (made.reading-load prog id secret makes rec (length ram) fits allows (receivedBytes (acceptedOf session)) all-received);
+        same-uds = sent-accepted .same-uds (t .0) (t .1) (subst (Among (acts (t .0) (t .1))) (sent-accepted .none-refused) (t .2 .among));
+        same-program = made.reading-program prog id secret makes rec (length ram) fits allows (gatheredBytes (acceptedOf session)) all-received;
+        same-secret = secret-of (loadIn (reading .load)) (secret .used) (made.reading-load prog id secret makes rec (length ram) fits allows (gatheredBytes (acceptedOf session)) all-received);
         none-refused = sent-accepted .none-refused;
       }
 
@@ -261,7 +246,7 @@ verified-boot =
       exactly = exactly;
       gives = gives;
       one-reading = λ S w w′.
-          let o = one-reading (S .rec) (S .ramLen) (receivedBytes (acceptedOf S)) w w′ in
+          let o = one-reading (S .rec) (S .ramLen) (gatheredBytes (acceptedOf S)) w w′ in
           (o .0, o .1, o .2, λ uds. one-string (S .rec) uds (w .load) (w′ .load) (w .blocks) (w′ .blocks) (o .1) (o .2));
       injective = injective;
       table = table;

@@ -1,95 +1,120 @@
--- Bytes sent one at a time, each call with the RAM that the one before it left: where the bytes read as those of a start, no call is refused.
+-- Bytes gathered one after the other, where each whole frame is acted on at once, with the RAM that the acting before it left: if the bytes read as those
+-- of a start, no call is refused.
 use Prim.Native.Nat.{ℕ}
 use mathlib.Core.Path.{_≡_, refl, sym, ap, _∙_, subst}
 use mathlib.Core.Logic.{_⊎_, inl, inr}
-use mathlib.Core.Bool.{Bool, true, false, cond, _||_}
-use mathlib.Core.List.{List, [], _∷_, _++_, append-assoc, List·Memᴰ, List·Memᴰ·not-nil, List·Memᴰ·cases-cons}
-use lib.Dec.{eqb}
+use mathlib.Core.Bool.{Bool, true, false, cond}
+use mathlib.Core.List.{List, [], _∷_, _++_, append-assoc, append-nil}
 use lib.ListN.{length}
-use borrow.Author.Tests.{eq-eqb, eqb-true}
+use borrow.Author.Tests.{eq-eqb}
+use Rattle.endian.proofs.Cases.{impossible}
 use Rattle.endian.specs.Lists.{zeros, Words}
-use Rattle.head.specs.Answers.{Outcome}
-use Rattle.head.specs.Act.{processed, step}
-use Rattle.head.proofs.Ranges.{never, by-test}
+use Rattle.head.specs.Answers.{reportsWhole, Gathering, Outcome}
+use Rattle.head.specs.Gather.{gathered}
+use Rattle.head.specs.Act.{acted}
 use Rattle.session.specs.Reading.{Starting}
-use Rattle.session.specs.Session.{Call, Entry, entryOf, log, isAccepted, accepted, receivedBytes, OneRam, isEnd}
-use Rattle.session.proofs.Calls.{Live, After, goes-on, has-started, has-stopped, after}
-use Rattle.session.proofs.Walk.{numberOf, call-taken, call-is}
-use Rattle.session.proofs.Begins.{Runs, number-is, next-runs}
+use Rattle.session.specs.Session.{Loan, Call, gather, act, Entry, gathers, acts, Among, log, isAccepted, accepted, gatheredBytes, OneRam, isActing}
+use Rattle.session.proofs.Calls.{Live, not-live, AfterGather, unfinished, complete, bad-header, after-gather, AfterAct, goes-on, has-started, has-stopped, after-act}
+use Rattle.session.proofs.Entries.{among-cases, among-none, lastFrom, numberOf, call-taken}
+use Rattle.session.proofs.Begins.{Runs, number-is, overAfter, fullAfter, next-runs}
 use Rattle.head.specs.declared.State.{State}
 
 module _ (uds : List ℕ) (typed : Words uds) where
-  abbrev pub sending : ℕ → List ℕ → Call
-  sending b r = record { byte = b; room = zeros 129; ram = r; uds = uds; words = typed }
+  abbrev lending : List ℕ → Loan
+  lending r = record { room = zeros 129; ram = r; uds = uds; words = typed }
 
+  abbrev acting : State → List ℕ → Outcome
+  acting s r = acted s (zeros 129) r uds
+
+  -- the calls for these bytes, from a state and the RAM that the last acting left
   abbrev pub callsFor : List ℕ → State → List ℕ → List Call
   callsFor [] s r = []
-  callsFor (b ∷ bs) s r = sending b r ∷ callsFor bs (entryOf s (sending b r) .out .state) (entryOf s (sending b r) .out .ram)
+  callsFor (b ∷ bs) s r =
+      let g = gathered s b in
+      let o = acting (g .state) r in
+      gather b ∷ cond (reportsWhole (g .report)) (act (lending r) ∷ callsFor bs (o .state) (o .ram)) (callsFor bs (g .state) r)
 
-  pub one-ram : (bs : List ℕ) (s : State) (r : List ℕ) → OneRam r (accepted (log s (callsFor bs s r)))
-  unfolding step
-  one-ram [] s r = tt
-  one-ram (b ∷ bs) s r =
-      by-test (λ (o : Outcome). OneRam r (accepted (record { call = sending b r; out = o } ∷ log (o .state) (callsFor bs (o .state) (o .ram)))))
-      (eqb (numberOf s (sending b r)) 0) _ _
-      (λ z.
-      let e = eqb-true (numberOf s (sending b r)) 0 z in
-      let o = processed s b (zeros 129) r uds in
-      let t : isAccepted (o .report) ≡ true = ap (λ (x : Outcome). isAccepted (x .report)) (sym (call-is s (sending b r) e)) ∙ call-taken s (sending b r) e in
-      taken (isAccepted (o .report)) t o (one-ram bs (o .state) (o .ram)))
-      (λ z. one-ram bs s r)
-    where
-      taken : (t : Bool) → t ≡ true → (o : Outcome) → OneRam (o .ram) (accepted (log (o .state) (callsFor bs (o .state) (o .ram))))
-          → OneRam r (cond t (record { call = sending b r; out = o } ∷ accepted (log (o .state) (callsFor bs (o .state) (o .ram)))) (accepted (log (o .state) (callsFor bs (o .state) (o .ram)))))
-      taken true e o x = (refl, x)
-      taken false e o x = never (sym e)
+  -- calls that gather bs, from RAM r on and after an acting or not: none is refused, and the last is an acting
+  pub record AllAccepted (bs r : List ℕ) (t : Bool) (es : List Entry) : Type 0 where
+    pub none-refused : accepted es ≡ es
+    pub all-bytes : gatheredBytes es ≡ bs
+    pub one-ram : OneRam r es
+    pub acted-on : lastFrom isActing t es ≡ true
+    pub same-uds : (l : Loan) (o : Outcome) → Among (acts l o) es → l .uds ≡ uds
 
-  pub same-uds : (bs : List ℕ) (s : State) (r : List ℕ) (e : Entry) → List·Memᴰ e (log s (callsFor bs s r)) → e .call .uds ≡ uds
-  same-uds [] s r e i = absurd (List·Memᴰ·not-nil i)
-  same-uds (b ∷ bs) s r e i = go (List·Memᴰ·cases-cons i) (λ j. same-uds bs _ _ e j)
+  gather-first : (bs r : List ℕ) (t : Bool) (b : ℕ) (g : Gathering) (es : List Entry) → isAccepted (g .report) ≡ true → AllAccepted bs r false es
+      → AllAccepted (b ∷ bs) r t (gathers b g ∷ es)
+  gather-first bs r t b g es e a =
+      record {
+        none-refused = rw (e, a .none-refused);
+        all-bytes = ap (λ (x : List ℕ). b ∷ x) (a .all-bytes);
+        one-ram = a .one-ram;
+        acted-on = a .acted-on;
+        same-uds = λ l o i. same l o (among-cases (gathers b g) (acts l o) es i);
+      }
     where
-      go : (e ≡ entryOf s (sending b r)) ⊎ List·Memᴰ e (log (entryOf s (sending b r) .out .state) (callsFor bs (entryOf s (sending b r) .out .state) (entryOf s (sending b r) .out .ram)))
-          → (List·Memᴰ e (log (entryOf s (sending b r) .out .state) (callsFor bs (entryOf s (sending b r) .out .state) (entryOf s (sending b r) .out .ram))) → e .call .uds ≡ uds)
-          → e .call .uds ≡ uds
-      go (inl q) f = ap (λ (x : Entry). x .call .uds) q
-      go (inr j) f = f j
+      same : (l : Loan) (o : Outcome) → (acts l o ≡ gathers b g) ⊎ Among (acts l o) es → l .uds ≡ uds
+      same l o (inl q) = impossible cc
+      same l o (inr j) = a .same-uds l o j
+
+  act-first : (bs r : List ℕ) (t : Bool) (x : Outcome) (es : List Entry) → isAccepted (x .report) ≡ true → AllAccepted bs (x .ram) true es
+      → AllAccepted bs r t (acts (lending r) x ∷ es)
+  act-first bs r t x es e a =
+      record {
+        none-refused = rw (e, a .none-refused);
+        all-bytes = a .all-bytes;
+        one-ram = (refl, a .one-ram);
+        acted-on = a .acted-on;
+        same-uds = λ l o i. same l o (among-cases (acts (lending r) x) (acts l o) es i);
+      }
+    where
+      same : (l : Loan) (o : Outcome) → (acts l o ≡ acts (lending r) x) ⊎ Among (acts l o) es → l .uds ≡ uds
+      same l o (inl q) = let k : l ≡ lending r = cc in ap (λ (y : Loan). y .uds) k
+      same l o (inr j) = a .same-uds l o j
+
+  no-more : (r : List ℕ) → AllAccepted [] r true []
+  no-more r = record { none-refused = refl; all-bytes = refl; one-ram = tt; acted-on = refl; same-uds = λ l o i. absurd (among-none (acts l o) i) }
 
   module _ (rec udi : List ℕ) (m : ℕ) (eight : length uds ≡ 8) where
-    not-refused : (s : State) (b : ℕ) (r : List ℕ) → Runs m s false → length r ≡ m → numberOf s (sending b r) ≡ 0
-    not-refused s b r v l = number-is m s false (sending b r) v ∙ rw (eq-eqb (length r) m l, eq-eqb (length uds) 8 eight)
+    -- what the calls for the bytes after these lead to
+    abbrev Rest : List ℕ → Type 0
+    Rest bs = (os : List (List ℕ)) (before : List ℕ) (s : State) (r : List ℕ) (t : Bool) → Live rec udi m os before s r → Runs m s false false → length r ≡ m
+        → Starting rec m (before ++ bs) → AllAccepted bs r t (log s (callsFor bs s r))
 
-    pub record AllAccepted (bs : List ℕ) (es : List Entry) : Type 0 where
-      pub none-refused : accepted es ≡ es
-      pub all-bytes : receivedBytes es ≡ bs
+    acted-first : (bs before r : List ℕ) → Starting rec m (before ++ bs) → Rest bs → (os : List (List ℕ)) (f : List ℕ) (t : Bool) (o : Outcome)
+        → isAccepted (o .report) ≡ true → Runs m (o .state) (overAfter false (acts (lending r) o)) (fullAfter true (acts (lending r) o))
+        → AfterAct rec udi m os f before (lending r) o → AllAccepted bs r t (acts (lending r) o ∷ log (o .state) (callsFor bs (o .state) (o .ram)))
+    acted-first bs before r w rest os f t o e x (goes-on q u n p) =
+        act-first bs r t o _ e (rest (os ++ f ∷ []) before (o .state) (o .ram) true u (rw q at x) n w)
+    acted-first bs before r w rest os f t o e x (has-started d l z) = act-first bs r t o _ e (rw (z bs w) (no-more (o .ram)))
+    acted-first bs before r w rest os f t o e x (has-stopped k q p z) = absurd (z bs w)
 
-    pub all-accepted : (bs before : List ℕ) (s : State) (r : List ℕ) → Live rec udi m before s r → Runs m s false → length r ≡ m → Starting rec m (before ++ bs)
-        → AllAccepted bs (log s (callsFor bs s r))
-    all-accepted [] before s r v g l w = record { none-refused = refl; all-bytes = refl }
-    all-accepted (b ∷ bs) before s r v g l w =
-        go (entryOf s c .out) (next-runs m s false c g) (call-taken s c n) (subst (After rec udi m c (before ++ b ∷ [])) (sym (call-is s c n)) (after rec udi m c before s v l))
-        (λ o u x k. all-accepted bs (before ++ b ∷ []) (o .state) (o .ram) u x k w′)
-      where
-        c : Call
-        c = sending b r
+    module _ (b : ℕ) (bs before r : List ℕ) (w : Starting rec m ((before ++ b ∷ []) ++ bs)) (rest : Rest bs) (fits : length r ≡ m) where
+      -- the gathering g of b and the calls after it, where b makes a frame whole or not
+      abbrev from : Gathering → Bool → List Entry
+      from g y =
+          let o = acting (g .state) r in
+          gathers b g ∷ log (g .state) (cond y (act (lending r) ∷ callsFor bs (o .state) (o .ram)) (callsFor bs (g .state) r))
 
-        n : numberOf s (sending b r) ≡ 0
-        n = not-refused s b r g l
+      gathered-first : (os : List (List ℕ)) (t : Bool) (g : Gathering) → isAccepted (g .report) ≡ true
+          → Runs m (g .state) (overAfter false (gathers b g)) (fullAfter false (gathers b g)) → AfterGather rec udi m os (before ++ b ∷ []) r g
+          → AllAccepted (b ∷ bs) r t (from g (reportsWhole (g .report)))
+      gathered-first os t g e x (unfinished q u) =
+          subst (λ (y : Bool). AllAccepted (b ∷ bs) r t (from g y)) (sym (ap reportsWhole q))
+          (gather-first bs r t b g _ e (rest os (before ++ b ∷ []) (g .state) r false u (rw q at x) fits w))
+      gathered-first os t g e x (complete q f u) =
+          let y : Runs m (g .state) false true = rw q at x in
+          let z : numberOf (g .state) (act (lending r)) ≡ 0 =
+          number-is m (g .state) false true (act (lending r)) y ∙ rw (eq-eqb (length r) m fits, eq-eqb (length uds) 8 eight) in
+          subst (λ (y : Bool). AllAccepted (b ∷ bs) r t (from g y)) (sym (ap reportsWhole q))
+          (gather-first bs r t b g _ e
+          (acted-first bs (before ++ b ∷ []) r w rest os f false (acting (g .state) r) (call-taken (g .state) (act (lending r)) z)
+          (next-runs m (g .state) false true (act (lending r)) y) (after-act rec udi m os f (before ++ b ∷ []) (g .state) (lending r) u z)))
+      gathered-first os t g e x (bad-header q p z) = absurd (z bs w)
 
-        w′ : Starting rec m ((before ++ b ∷ []) ++ bs)
-        w′ = subst (Starting rec m) (sym (append-assoc before (b ∷ []) bs)) w
-
-        more : (o : Outcome) → isAccepted (o .report) ≡ true → AllAccepted bs (log (o .state) (callsFor bs (o .state) (o .ram)))
-            → AllAccepted (b ∷ bs) (record { call = sending b r; out = o } ∷ log (o .state) (callsFor bs (o .state) (o .ram)))
-        more o t f =
-            record {
-              none-refused = rw (t, f .none-refused);
-              all-bytes = ap (λ (x : List ℕ). b ∷ x) (f .all-bytes);
-            }
-
-        go : (o : Outcome) → Runs m (o .state) (isEnd (o .report) || false) → isAccepted (o .report) ≡ true → After rec udi m (sending b r) (before ++ b ∷ []) o
-            → ((o : Outcome) → Live rec udi m (before ++ b ∷ []) (o .state) (o .ram) → Runs m (o .state) false → length (o .ram) ≡ m
-            → AllAccepted bs (log (o .state) (callsFor bs (o .state) (o .ram))))
-            → AllAccepted (b ∷ bs) (record { call = sending b r; out = o } ∷ log (o .state) (callsFor bs (o .state) (o .ram)))
-        go o x t (goes-on e u k s) f = more o t (f o u (subst (λ (y : Bool). Runs m (o .state) (y || false)) (ap isEnd e) x) k)
-        go o x t (has-started d l z) f = more o t (rw (z bs w′) (record { none-refused = refl; all-bytes = refl }))
-        go o x t (has-stopped k e q z) f = absurd (z bs w′)
+    pub all-accepted : (bs : List ℕ) → Rest bs
+    all-accepted [] os before s r t v g n w = absurd (not-live rec udi m v (subst (Starting rec m) (append-nil before) w))
+    all-accepted (b ∷ bs) os before s r t v g n w =
+        let z : numberOf s (gather b) ≡ 0 = number-is m s false false (gather b) g in
+        gathered-first b bs before r (subst (Starting rec m) (sym (append-assoc before (b ∷ []) bs)) w) (all-accepted bs) n os t (gathered s b)
+        (call-taken s (gather b) z) (next-runs m s false false (gather b) g) (after-gather rec udi m os before s r v b z)

@@ -11,24 +11,21 @@ use borrow.Author.Tests.{eqb-true, eqb-false}
 use Rattle.endian.proofs.Cases.{impossible}
 use Rattle.protocol.specs.Commands.{commandIn, loadIn, carriedBy}
 use Rattle.protocol.proofs.Proved.{protocol}
-use Rattle.head.specs.Act.{actionWaiting, actionLoading}
+use Rattle.head.specs.Act.{Request, asksName, asksUdi, givesLoad, givesBlock, halts, requestWaiting, requestLoading}
 use Rattle.head.proofs.Ranges.{never}
 use Rattle.endian.specs.Lists.{All}
 use Rattle.session.specs.Reading.{bodyOf, QueryFrame, LoadFrame, GoodLoad, Opens, BlockFrame, carried, sizeOf}
-use Rattle.head.specs.declared.Action.{Action}
-use Rattle.head.specs.declared.Action.the-variants as action
 
 -- ---- what a frame asks for, against what it is
 
 -- while waiting
-pub data AskedWaiting (f : List ℕ) : Action → Type 0 where
-  asks-name : QueryFrame f → AskedWaiting f action.AnswerName
-  asks-udi : QueryFrame f → AskedWaiting f action.AnswerUdi
-  asks-load : LoadFrame f → AskedWaiting f action.TakeLoad
-  wrong-command : (QueryFrame f → ⊥) → (LoadFrame f → ⊥) → AskedWaiting f action.StopCommand
-  wrong-length : (QueryFrame f → ⊥) → (LoadFrame f → ⊥) → AskedWaiting f action.StopLength
+pub data AskedWaiting (f : List ℕ) : Request → Type 0 where
+  asks-name : QueryFrame f → AskedWaiting f asksName
+  asks-udi : QueryFrame f → AskedWaiting f asksUdi
+  asks-load : LoadFrame f → AskedWaiting f givesLoad
+  asks-neither : (k : ℕ) → (QueryFrame f → ⊥) → (LoadFrame f → ⊥) → AskedWaiting f (halts k)
 
-pub asked-waiting : (f : List ℕ) → AskedWaiting f (actionWaiting (commandIn f) (length (bodyOf f)))
+pub asked-waiting : (f : List ℕ) → AskedWaiting f (requestWaiting (commandIn f) (length (bodyOf f)))
 asked-waiting f = go (eqb c 0x01) (eqb c 0x08) (eqb c 0x03) (eqb n 1) (eqb n 128) refl refl refl refl refl
   where
     c : ℕ
@@ -38,28 +35,27 @@ asked-waiting f = go (eqb c 0x01) (eqb c 0x08) (eqb c 0x03) (eqb n 1) (eqb n 128
     n = length (bodyOf f)
 
     go : (x y z t u : Bool) → eqb c 0x01 ≡ x → eqb c 0x08 ≡ y → eqb c 0x03 ≡ z → eqb n 1 ≡ t → eqb n 128 ≡ u
-        → AskedWaiting f (cond x (cond t action.AnswerName action.StopLength) (cond y (cond t action.AnswerUdi action.StopLength) (cond z (cond u action.TakeLoad action.StopLength) action.StopCommand)))
+        → AskedWaiting f (cond x (cond t asksName (halts 24)) (cond y (cond t asksUdi (halts 24)) (cond z (cond u givesLoad (halts 24)) (halts 23))))
     go true y z true u ex ey ez et eu = asks-name (eqb-true n 1 et, inl (eqb-true c 0x01 ex))
     go true y z false u ex ey ez et eu =
         let e = eqb-true c 0x01 ex in
-        wrong-length (λ q. eqb-false n 1 et (q .0)) (λ l. let d : c ≡ 3 = l .1 in omega arith)
+        asks-neither 24 (λ q. eqb-false n 1 et (q .0)) (λ l. let d : c ≡ 3 = l .1 in omega arith)
     go false true z true u ex ey ez et eu = asks-udi (eqb-true n 1 et, inr (eqb-true c 0x08 ey))
     go false true z false u ex ey ez et eu =
         let e = eqb-true c 0x08 ey in
-        wrong-length (λ q. eqb-false n 1 et (q .0)) (λ l. let d : c ≡ 3 = l .1 in omega arith)
+        asks-neither 24 (λ q. eqb-false n 1 et (q .0)) (λ l. let d : c ≡ 3 = l .1 in omega arith)
     go false false true t true ex ey ez et eu = asks-load (eqb-true n 128 eu, eqb-true c 0x03 ez)
     go false false true t false ex ey ez et eu =
-        wrong-length (λ q. ⊎-elim (eqb-false c 0x01 ex) (eqb-false c 0x08 ey) (q .1)) (λ l. eqb-false n 128 eu (l .0))
+        asks-neither 24 (λ q. ⊎-elim (eqb-false c 0x01 ex) (eqb-false c 0x08 ey) (q .1)) (λ l. eqb-false n 128 eu (l .0))
     go false false false t u ex ey ez et eu =
-        wrong-command (λ q. ⊎-elim (eqb-false c 0x01 ex) (eqb-false c 0x08 ey) (q .1)) (λ l. eqb-false c 0x03 ez (l .1))
+        asks-neither 23 (λ q. ⊎-elim (eqb-false c 0x01 ex) (eqb-false c 0x08 ey) (q .1)) (λ l. eqb-false c 0x03 ez (l .1))
 
 -- while loading
-pub data AskedLoading (f : List ℕ) : Action → Type 0 where
-  asks-block : BlockFrame f → AskedLoading f action.TakeBlock
-  no-command : (BlockFrame f → ⊥) → AskedLoading f action.StopCommand
-  no-length : (BlockFrame f → ⊥) → AskedLoading f action.StopLength
+pub data AskedLoading (f : List ℕ) : Request → Type 0 where
+  asks-block : BlockFrame f → AskedLoading f givesBlock
+  asks-no-block : (k : ℕ) → (BlockFrame f → ⊥) → AskedLoading f (halts k)
 
-pub asked-loading : (f : List ℕ) → AskedLoading f (actionLoading (commandIn f) (length (bodyOf f)))
+pub asked-loading : (f : List ℕ) → AskedLoading f (requestLoading (commandIn f) (length (bodyOf f)))
 asked-loading f = go (eqb c 0x05) (eqb n 128) refl refl
   where
     c : ℕ
@@ -68,10 +64,10 @@ asked-loading f = go (eqb c 0x05) (eqb n 128) refl refl
     n : ℕ
     n = length (bodyOf f)
 
-    go : (x u : Bool) → eqb c 0x05 ≡ x → eqb n 128 ≡ u → AskedLoading f (cond x (cond u action.TakeBlock action.StopLength) action.StopCommand)
+    go : (x u : Bool) → eqb c 0x05 ≡ x → eqb n 128 ≡ u → AskedLoading f (cond x (cond u givesBlock (halts 24)) (halts 23))
     go true true ex eu = asks-block (eqb-true n 128 eu, eqb-true c 0x05 ex)
-    go true false ex eu = no-length (λ b. eqb-false n 128 eu (b .0))
-    go false u ex eu = no-command (λ b. eqb-false c 0x05 ex (b .1))
+    go true false ex eu = asks-no-block 24 (λ b. eqb-false n 128 eu (b .0))
+    go false u ex eu = asks-no-block 23 (λ b. eqb-false c 0x05 ex (b .1))
 
 -- ---- the frames with endpoint 2
 

@@ -1,158 +1,173 @@
--- The list of calls, from a head that goes on: where a call answers a start, the accepted bytes read as those of a start, and the other way round.
+-- The list of calls, from a head that goes on: where an acting answers a start, the accepted bytes read as those of a start and the last accepted call
+-- is an acting, and the other way round.
 use Prim.Native.Nat.{ℕ}
 use mathlib.Core.Path.{_≡_, refl, sym, ap, _∙_, subst}
 use mathlib.Core.Logic.{_⊎_, inl, inr}
 use mathlib.Core.Bool.{Bool, true, false, cond}
-use mathlib.Core.List.{List, [], _∷_, _++_, append-assoc, append-nil, List·Memᴰ, List·Memᴰ·head, List·Memᴰ·tail, List·Memᴰ·not-nil, List·Memᴰ·cases-cons}
-use lib.Dec.{eqb}
+use mathlib.Core.List.{List, [], _∷_, _++_, append-assoc, append-nil}
 use lib.ListN.{length, getD}
-use borrow.Author.Tests.{eqb-true}
 use Rattle.endian.proofs.Cases.{impossible}
-use Rattle.head.specs.State.{live, ended}
-use Rattle.head.specs.Answers.{Report, refused, continues, stopped, started, Outcome}
-use Rattle.head.specs.Act.{refusal, processed, step}
-use Rattle.head.proofs.Ranges.{never, by-test}
-use Rattle.head.proofs.Admitted.{admitted, admitted-as}
-use Rattle.head.proofs.Proved.{head-theorems}
+use Rattle.head.specs.Answers.{continues, stopped, started, Gathering, Outcome}
+use Rattle.head.specs.Gather.{gatherRefusal, gathered}
+use Rattle.head.specs.Act.{acted}
+use Rattle.head.proofs.Ranges.{never}
+use Rattle.head.proofs.Admitted.{gather-admitted, act-admitted}
 use Rattle.session.specs.Reading.{Starting}
-use Rattle.session.specs.Session.{Call, Entry, entryOf, log, isAccepted, accepted, receivedBytes, OneRam}
+use Rattle.session.specs.Session.{Loan, Call, gather, act, Entry, gathers, acts, entryOf, reportIn, stateAfter, Among, log, isAccepted, accepted, gatheredBytes, OneRam, isActing}
 use Rattle.session.proofs.Acting.{Leaves}
-use Rattle.session.proofs.Calls.{Live, not-live, After, goes-on, has-started, has-stopped, after}
-use Rattle.head.specs.declared.Phase.the-variants as phase
+use Rattle.session.proofs.Calls.{Live, Full, not-whole, now-whole, not-live, AfterGather, unfinished, complete, bad-header, after-gather, AfterAct, goes-on, has-started, has-stopped, after-act}
+use Rattle.session.proofs.Entries.{among-first, among-later, among-cases, among-none, lastFrom, numberOf, number-zero, state-kept, nothing-started, nothing-stopped}
 use Rattle.head.specs.declared.State.{State}
 
-abbrev pub numberOf : State → Call → ℕ
-numberOf s c = refusal s (length (c .room)) (length (c .ram)) (length (c .uds))
-
--- a report that is no refusal
-taken : (x : Report) → ((k : ℕ) → x ≡ refused k → ⊥) → isAccepted x ≡ true
-taken (refused k) h = absurd (h k refl)
-taken continues h = refl
-taken (stopped k) h = refl
-taken (started a n) h = refl
-
--- a call that the table does not refuse is accepted
-pub call-taken : (s : State) (c : Call) → numberOf s c ≡ 0 → isAccepted (entryOf s c .out .report) ≡ true
-call-taken s c e =
-    taken (entryOf s c .out .report)
-    (λ k r. let h = head-theorems .call s (c .byte) (c .room) (c .ram) (c .uds) .refuses k .0 r in h .1 (h .0 ∙ e))
-
-pub call-is : (s : State) (c : Call) → numberOf s c ≡ 0 → entryOf s c .out ≡ processed s (c .byte) (c .room) (c .ram) (c .uds)
-call-is s c e = sym (admitted-as s (c .byte) (c .room) (c .ram) (c .uds) (sym e))
-
--- a head that has ended accepts nothing
-pub nothing : (s : State) (cs : List Call) → live (s .progress .phase) ≡ false → accepted (log s cs) ≡ []
-unfolding step
-nothing s [] e = refl
-nothing s (c ∷ cs) e =
-    by-test (λ (o : Outcome). accepted (record { call = c; out = o } ∷ log (o .state) cs) ≡ []) (eqb (numberOf s c) 0) _ _
-    (λ z. never (sym (admitted s (length (c .room)) (length (c .ram)) (length (c .uds)) (eqb-true (numberOf s c) 0 z) .goes) ∙ e))
-    (λ z. nothing s cs e)
-
-ended-start : (m : ℕ) → live (ended phase.Started m .progress .phase) ≡ false
-unfolding ended
-ended-start m = refl
-
-ended-stop : (m : ℕ) → live (ended phase.Stopped m .progress .phase) ≡ false
-unfolding ended
-ended-stop m = refl
+-- an acting answered a start
+pub record Answered (o : Outcome) : Type 0 where
+  pub address : ℕ
+  pub size : ℕ
+  pub answers : o .report ≡ started address size
 
 module _ (rec udi : List ℕ) (m : ℕ) where
-  -- the start that e is, where these are the accepted bytes
-  pub record Begun (bs : List ℕ) (e : Entry) : Type 0 where
+  -- what the accepted calls amount to; the last of them is an acting or not
+  pub data Stands (os : List (List ℕ)) (bs : List ℕ) (s : State) (r : List ℕ) (acting : Bool) : Type 0 where
+    is-live : Live rec udi m os bs s r → Stands os bs s r acting
+    is-full : (f : List ℕ) → Full rec udi m os f bs s r → acting ≡ false → Stands os bs s r acting
+
+  -- an accepted gathering finds no whole frame, and an accepted acting finds one
+  pub gathering : (os : List (List ℕ)) (bs : List ℕ) (s : State) (r : List ℕ) (acting : Bool) (b : ℕ) → Stands os bs s r acting → gatherRefusal s ≡ 0
+      → AfterGather rec udi m os (bs ++ b ∷ []) r (gathered s b)
+  gathering os bs s r acting b (is-live v) z = after-gather rec udi m os bs s r v b z
+  gathering os bs s r acting b (is-full f v n) z = never (sym (now-whole rec udi m v) ∙ gather-admitted s z .unfinished)
+
+  pub acting-on : (os : List (List ℕ)) (bs : List ℕ) (s : State) (r : List ℕ) (acting : Bool) (l : Loan) → Stands os bs s r acting → numberOf s (act l) ≡ 0
+      → l .ram ≡ r → (f : List ℕ) × Full rec udi m os f bs s r × AfterAct rec udi m os f bs l (acted s (l .room) (l .ram) (l .uds))
+  acting-on os bs s r acting l (is-live v) z e =
+      never (sym (act-admitted s (length (l .room)) (length (l .ram)) (length (l .uds)) z .complete) ∙ not-whole rec udi m v)
+  acting-on os bs s r acting l (is-full f v n) z e = (f, v, after-act rec udi m os f bs s l (subst (Full rec udi m os f bs s) (sym e) v) z)
+
+  -- the start that an acting answered, where these are the accepted bytes
+  pub record Begun (bs : List ℕ) (l : Loan) (o : Outcome) : Type 0 where
     pub reading : Starting rec m bs
-    pub leaves : Leaves rec udi m (reading .load) (reading .blocks) (getD (reading .last) 0 0) (e .call .room) (e .call .uds) (e .out)
-    pub eight : length (e .call .uds) ≡ 8
+    pub leaves : Leaves rec udi m (reading .load) (reading .blocks) (getD (reading .last) 0 0) (l .room) (l .uds) o
+    pub eight : length (l .uds) ≡ 8
 
-  -- e answered a start
-  pub record Answered (e : Entry) : Type 0 where
-    pub address : ℕ
-    pub size : ℕ
-    pub answers : e .out .report ≡ started address size
+  pub record Walk (acting : Bool) (bs : List ℕ) (es : List Entry) : Type 0 where
+    pub only : (l : Loan) (o : Outcome) → Among (acts l o) es → Answered o
+        → Begun (bs ++ gatheredBytes es) l o × (lastFrom isActing acting es ≡ true)
+    pub whenever : Starting rec m (bs ++ gatheredBytes es) → lastFrom isActing acting es ≡ true
+        → (l : Loan) × (o : Outcome) × Among (acts l o) es × Answered o
 
-  pub record Walk (bs : List ℕ) (es : List Entry) : Type 0 where
-    pub only : (e : Entry) → List·Memᴰ e es → Answered e → Begun (bs ++ receivedBytes es) e
-    pub whenever : Starting rec m (bs ++ receivedBytes es) → (e : Entry) × List·Memᴰ e es × Answered e
+  no-more : (os : List (List ℕ)) (acting : Bool) (bs : List ℕ) (s : State) (r : List ℕ) → Stands os bs s r acting → Walk acting bs []
+  no-more os acting bs s r v = record { only = λ l o i a. absurd (among-none (acts l o) i); whenever = λ d e. absurd (none v d e) }
+    where
+      none : Stands os bs s r acting → Starting rec m (bs ++ []) → acting ≡ true → ⊥
+      none (is-live v) d e = not-live rec udi m v (subst (Starting rec m) (append-nil bs) d)
+      none (is-full f v n) d e = never (sym e ∙ n)
 
-  -- what the calls after this one lead to
+  -- ---- a call, and what the calls after it lead to
+
+  gather-first : (acting : Bool) (bs : List ℕ) (b : ℕ) (g : Gathering) (es : List Entry) → Walk false (bs ++ b ∷ []) es
+      → Walk acting bs (gathers b g ∷ es)
+  gather-first acting bs b g es w =
+      record {
+        only = λ l o i a. only l o (among-cases (gathers b g) (acts l o) es i) a;
+        whenever = λ d e.
+            let t = w .whenever (subst (Starting rec m) (sym p) d) e in
+            (t .0, t .1, among-later (gathers b g) (acts (t .0) (t .1)) es (t .2), t .3);
+      }
+    where
+      p : (bs ++ b ∷ []) ++ gatheredBytes es ≡ bs ++ b ∷ gatheredBytes es
+      p = append-assoc bs (b ∷ []) (gatheredBytes es)
+
+      only : (l : Loan) (o : Outcome) → (acts l o ≡ gathers b g) ⊎ Among (acts l o) es → Answered o
+          → Begun (bs ++ b ∷ gatheredBytes es) l o × (lastFrom isActing false es ≡ true)
+      only l o (inl q) a = impossible cc
+      only l o (inr j) a = let t = w .only l o j a in (subst (λ (x : List ℕ). Begun x l o) p (t .0), t .1)
+
+  act-first : (acting : Bool) (bs : List ℕ) (l : Loan) (o : Outcome) (es : List Entry) → o .report ≡ continues → Walk true bs es
+      → Walk acting bs (acts l o ∷ es)
+  act-first acting bs l o es r w =
+      record {
+        only = λ k x i a. only k x (among-cases (acts l o) (acts k x) es i) a;
+        whenever = λ d e. let t = w .whenever d e in (t .0, t .1, among-later (acts l o) (acts (t .0) (t .1)) es (t .2), t .3);
+      }
+    where
+      only : (k : Loan) (x : Outcome) → (acts k x ≡ acts l o) ⊎ Among (acts k x) es → Answered x
+          → Begun (bs ++ gatheredBytes es) k x × (lastFrom isActing true es ≡ true)
+      only k x (inl q) a =
+          let t : started (a .address) (a .size) ≡ continues = sym (a .answers) ∙ ap reportIn q ∙ r in
+          impossible cc
+      only k x (inr j) a = w .only k x j a
+
+  start-last : (acting : Bool) (bs : List ℕ) (l : Loan) (o : Outcome) → Begun bs l o → Walk acting bs (acts l o ∷ [])
+  start-last acting bs l o b =
+      record {
+        only = λ k x i a. only k x (among-cases (acts l o) (acts k x) [] i);
+        whenever = λ d e. (l, o, among-first (acts l o) [], record { address = _; size = _; answers = b .leaves .report });
+      }
+    where
+      only : (k : Loan) (x : Outcome) → (acts k x ≡ acts l o) ⊎ Among (acts k x) [] → Begun (bs ++ []) k x × (_≡_ {A = Bool} true true)
+      only k x (inl q) = let el : k ≡ l = cc in let eo : x ≡ o = cc in (rw (append-nil bs, el, eo) b, refl)
+      only k x (inr j) = absurd (among-none (acts k x) j)
+
+  stop-last : (acting : Bool) (bs : List ℕ) (e : Entry) (k : ℕ) → reportIn e ≡ stopped k → (Starting rec m (bs ++ gatheredBytes (e ∷ [])) → ⊥)
+      → Walk acting bs (e ∷ [])
+  stop-last acting bs e k r z =
+      record { only = λ l o i a. only l o (among-cases e (acts l o) [] i) a; whenever = λ d q. absurd (z d) }
+    where
+      only : (l : Loan) (o : Outcome) → (acts l o ≡ e) ⊎ Among (acts l o) [] → Answered o
+          → Begun (bs ++ gatheredBytes (e ∷ [])) l o × (isActing e ≡ true)
+      only l o (inl q) a =
+          let t : started (a .address) (a .size) ≡ stopped k = sym (a .answers) ∙ ap reportIn q ∙ r in
+          impossible cc
+      only l o (inr j) a = absurd (among-none (acts l o) j)
+
+  -- ---- the list
+
   abbrev Rest : List Call → Type 0
-  Rest cs = (bs : List ℕ) (s : State) (r : List ℕ) → Live rec udi m bs s r → OneRam r (accepted (log s cs)) → Walk bs (accepted (log s cs))
+  Rest cs = (os : List (List ℕ)) (acting : Bool) (bs : List ℕ) (s : State) (r : List ℕ) → Stands os bs s r acting → OneRam r (accepted (log s cs))
+      → Walk acting bs (accepted (log s cs))
 
-  module _ (c : Call) (cs : List Call) (bs : List ℕ) (eight : length (c .uds) ≡ 8) (rest : Rest cs) where
-    abbrev entry : Outcome → Entry
-    entry o = record { call = c; out = o }
+  -- only an accepted call counts
+  module _ (c : Call) (cs : List Call) (rest : Rest cs) (os : List (List ℕ)) (acting : Bool) (bs : List ℕ) (s : State) (r : List ℕ)
+      (v : Stands os bs s r acting) where
+    abbrev later : List Entry
+    later = accepted (log (stateAfter (entryOf s c)) cs)
 
-    abbrev later : Outcome → List Entry
-    later o = accepted (log (o .state) cs)
-
-    one-byte : (o : Outcome) → later o ≡ [] → bs ++ receivedBytes (entry o ∷ later o) ≡ bs ++ c .byte ∷ []
-    one-byte o n = ap (λ (x : List Entry). bs ++ c .byte ∷ receivedBytes x) n
-
-    after-walk : (o : Outcome) → After rec udi m c (bs ++ c .byte ∷ []) o → OneRam (o .ram) (later o) → Walk bs (entry o ∷ later o)
-    after-walk o (goes-on e v l s) one =
-        let w = rest (bs ++ c .byte ∷ []) (o .state) (o .ram) v one in
-        let p = append-assoc bs (c .byte ∷ []) (receivedBytes (later o)) in
-        record {
-          only = λ x i a. only x (List·Memᴰ·cases-cons i) a (λ j. subst (λ (y : List ℕ). Begun y x) p (w .only x j a));
-          whenever = λ d.
-              let t = w .whenever (subst (Starting rec m) (sym p) d) in
-              (t .0, List·Memᴰ·tail (t .1), t .2);
-        }
+    by-accepted : (isAccepted (reportIn (entryOf s c)) ≡ true → OneRam r (entryOf s c ∷ later) → Walk acting bs (entryOf s c ∷ later))
+        → OneRam r (accepted (log s (c ∷ cs))) → Walk acting bs (accepted (log s (c ∷ cs)))
+    by-accepted f = go (isAccepted (reportIn (entryOf s c))) refl
       where
-        only : (x : Entry) → (x ≡ entry o) ⊎ List·Memᴰ x (later o) → Answered x → (List·Memᴰ x (later o) → Begun (bs ++ receivedBytes (entry o ∷ later o)) x)
-            → Begun (bs ++ receivedBytes (entry o ∷ later o)) x
-        only x (inl q) a f =
-            let r : started (a .address) (a .size) ≡ continues = sym (a .answers) ∙ ap (λ (y : Entry). y .out .report) q ∙ e in
-            impossible cc
-        only x (inr j) a f = f j
-    after-walk o (has-started w l z) one =
-        let n = nothing (o .state) cs (ap (λ (s : State). live (s .progress .phase)) (l .state) ∙ ended-start m) in
-        let b : Begun (bs ++ receivedBytes (entry o ∷ later o)) (entry o) =
-        subst (λ (y : List ℕ). Begun y (entry o)) (sym (one-byte o n)) (record { reading = w; leaves = l; eight = eight }) in
-        record {
-          only = λ x i a. only n b x (List·Memᴰ·cases-cons i);
-          whenever = λ d. (entry o, List·Memᴰ·head refl, record { address = _; size = _; answers = l .report });
-        }
-      where
-        only : later o ≡ [] → Begun (bs ++ receivedBytes (entry o ∷ later o)) (entry o) → (x : Entry) → (x ≡ entry o) ⊎ List·Memᴰ x (later o)
-            → Begun (bs ++ receivedBytes (entry o ∷ later o)) x
-        only n b x (inl q) = subst (Begun (bs ++ receivedBytes (entry o ∷ later o))) (sym q) b
-        only n b x (inr j) = absurd (List·Memᴰ·not-nil (subst (List·Memᴰ x) n j))
-    after-walk o (has-stopped k r q z) one =
-        let n = nothing (o .state) cs (ap (λ (s : State). live (s .progress .phase)) q ∙ ended-stop m) in
-        record {
-          only = λ x i a. only n x (List·Memᴰ·cases-cons i) a;
-          whenever = λ d. absurd (z [] (subst (Starting rec m) (one-byte o n ∙ sym (append-nil _)) d));
-        }
-      where
-        only : later o ≡ [] → (x : Entry) → (x ≡ entry o) ⊎ List·Memᴰ x (later o) → Answered x → Begun (bs ++ receivedBytes (entry o ∷ later o)) x
-        only n x (inl p) a =
-            let t : started (a .address) (a .size) ≡ stopped k = sym (a .answers) ∙ ap (λ (y : Entry). y .out .report) p ∙ r in
-            impossible cc
-        only n x (inr j) a = absurd (List·Memᴰ·not-nil (subst (List·Memᴰ x) n j))
+        go : (t : Bool) → isAccepted (reportIn (entryOf s c)) ≡ t → OneRam r (cond t (entryOf s c ∷ later) later)
+            → Walk acting bs (cond t (entryOf s c ∷ later) later)
+        go true e = f e
+        go false e =
+            subst (λ (t : State). OneRam r (accepted (log t cs)) → Walk acting bs (accepted (log t cs))) (sym (state-kept s c e)) (rest os acting bs s r v)
 
-    taken-walk : (o : Outcome) (t : Bool) → t ≡ true → (r : List ℕ) → (c .ram ≡ r → OneRam (o .ram) (later o) → Walk bs (entry o ∷ later o))
-        → OneRam r (cond t (entry o ∷ later o) (later o)) → Walk bs (cond t (entry o ∷ later o) (later o))
-    taken-walk o true e r g one = g (one .0) (one .1)
-    taken-walk o false e r g one = never (sym e)
+  gather-next : (b : ℕ) (cs : List Call) → Rest cs → Rest (gather b ∷ cs)
+  gather-next b cs rest os acting bs s r v =
+      by-accepted (gather b) cs rest os acting bs s r v (λ t. after (gathered s b) (gathering os bs s r acting b v (number-zero s (gather b) t)))
+    where
+      after : (g : Gathering) → AfterGather rec udi m os (bs ++ b ∷ []) r g → OneRam r (accepted (log (g .state) cs))
+          → Walk acting bs (gathers b g ∷ accepted (log (g .state) cs))
+      after g (unfinished e u) one = gather-first acting bs b g _ (rest os false (bs ++ b ∷ []) (g .state) r (is-live u) one)
+      after g (complete e f u) one = gather-first acting bs b g _ (rest os false (bs ++ b ∷ []) (g .state) r (is-full f u refl) one)
+      after g (bad-header e q z) one =
+          rw (nothing-stopped (g .state) m cs q) (stop-last acting bs (gathers b g) 22 e (λ d. z [] (subst (Starting rec m) (sym (append-nil _)) d)))
 
-  ram-length : (bs : List ℕ) (s : State) (r : List ℕ) → Live rec udi m bs s r → s .config .«ram_len» ≡ m
-  ram-length bs s r v = ap (λ (t : State). t .config .«ram_len») (v .state)
+  act-next : (l : Loan) (cs : List Call) → Rest cs → Rest (act l ∷ cs)
+  act-next l cs rest os acting bs s r v =
+      by-accepted (act l) cs rest os acting bs s r v (λ t one.
+      let z = number-zero s (act l) t in
+      let a = acting-on os bs s r acting l v z (one .0) in
+      after _ (a .0) (a .2) (act-admitted s (length (l .room)) (length (l .ram)) (length (l .uds)) z .words) (one .1))
+    where
+      after : (o : Outcome) (f : List ℕ) → AfterAct rec udi m os f bs l o → length (l .uds) ≡ 8 → OneRam (o .ram) (accepted (log (o .state) cs))
+          → Walk acting bs (acts l o ∷ accepted (log (o .state) cs))
+      after o f (goes-on e u n x) w one = act-first acting bs l o _ e (rest (os ++ f ∷ []) true bs (o .state) (o .ram) (is-live u) one)
+      after o f (has-started d x z) w one =
+          rw (nothing-started (o .state) m cs (x .state)) (start-last acting bs l o (record { reading = d; leaves = x; eight = w }))
+      after o f (has-stopped k e q z) w one = rw (nothing-stopped (o .state) m cs q) (stop-last acting bs (acts l o) k e (z []))
 
   pub walk : (cs : List Call) → Rest cs
-  unfolding step
-  walk [] bs s r v = λ one.
-      record {
-        only = λ e i a. absurd (List·Memᴰ·not-nil i);
-        whenever = λ d. absurd (not-live rec udi m v (subst (Starting rec m) (append-nil bs) d));
-      }
-  walk (c ∷ cs) bs s r v =
-      by-test (λ (o : Outcome). OneRam r (accepted (record { call = c; out = o } ∷ log (o .state) cs)) → Walk bs (accepted (record { call = c; out = o } ∷ log (o .state) cs)))
-      (eqb (numberOf s c) 0) _ _
-      (λ z.
-      let e = eqb-true (numberOf s c) 0 z in
-      let a = admitted s (length (c .room)) (length (c .ram)) (length (c .uds)) e in
-      let o = processed s (c .byte) (c .room) (c .ram) (c .uds) in
-      taken-walk c cs bs (a .words) (walk cs) o (isAccepted (o .report)) (ap (λ (x : Outcome). isAccepted (x .report)) (sym (call-is s c e)) ∙ call-taken s c e) r
-      (λ q one. after-walk c cs bs (a .words) (walk cs) o (after rec udi m c bs s (subst (Live rec udi m bs s) (sym q) v) (a .ram-same ∙ ram-length bs s r v)) one))
-      (λ z. walk cs bs s r v)
+  walk [] = λ os acting bs s r v one. no-more os acting bs s r v
+  walk (gather b ∷ cs) = gather-next b cs (walk cs)
+  walk (act l ∷ cs) = act-next l cs (walk cs)

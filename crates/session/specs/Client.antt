@@ -91,10 +91,10 @@ module _ (program : List ℕ) (id : ℕ) (secret : Secret) where
   abbrev pub digestAt : ℕ → List ℕ
   digestAt k = cond (eqb k (blocksFor (length program))) programDigest (zeros 32)
 
-  -- what an acting finds, and what it leaves in its room, where k others came before it
-  pub record Replied (k : ℕ) (before : List Entry) (o : Outcome) : Type 0 where
+  -- what an acting finds, and what it leaves in its room, where k others and these bytes came before it
+  pub record Replied (k : ℕ) (received : List ℕ) (o : Outcome) : Type 0 where
     -- frame k has come whole, and nothing after it
-    pub frame-whole : gatheredBytes before ≡ flatten (framesTo (suc k))
+    pub frame-whole : received ≡ flatten (framesTo (suc k))
     -- the client takes the reply as the one to that frame, with status 0
     pub taken : taking (length program) id k (take (o .reply) (o .room)) ≡ takingAs 0 0 (digestAt k)
 
@@ -113,8 +113,8 @@ module _ (program : List ℕ) (id : ℕ) (secret : Secret) where
     pub front : take (length program) (start .out .ram) ≡ program
     pub cdi : start .out .cdi
         ≡ blake2s [] (cdiString (bytes (start .loan .uds)) (chained (S .rec)) (measuredId (S .rec)) programDigest (secret .used) (secret .uss)) 32
-    -- each acting, by the number of actings before it
-    pub replies : (l : Loan) (o : Outcome) (i : Among (acts l o) (allOf S)) → Replied (actings (i .before)) (i .before) o
+    -- each acting, by the number of actings and the bytes before it
+    pub replies : (l : Loan) (o : Outcome) (i : Among (acts l o) (allOf S)) → Replied (actings (i .before)) (gatheredBytes (i .before)) o
     -- the laptop that is given these replies, one after the other, says that the program is loaded
     pub laptop : (wait : ℕ) → runs (job wait) (opening (job wait)) (bytesOf (repliesOf (allOf S))) .next ≡ Loaded
 

@@ -9,7 +9,7 @@ use lib.Dec.{eqb, ltb}
 use lib.ListN.{length, take}
 use Rattle.endian.specs.Lists.{Words}
 use Rattle.record.specs.Record.{typeField, numberIn}
-use Rattle.head.specs.Answers.{Report, refused, continues, whole, stopped, started, Gathering, Outcome}
+use Rattle.head.specs.Answers.{Report, refused, continues, whole, stopped, started, reportsWhole, Gathering, Outcome}
 use Rattle.head.specs.Begin.{beginning}
 use Rattle.head.specs.Gather.{gathered}
 use Rattle.head.specs.Act.{acted}
@@ -22,7 +22,7 @@ pub record Loan : Type 0 where
   pub uds : List ℕ
   pub words : Words uds
 
--- what a call gets besides the state: a gathering a byte and nothing else, an acting no byte
+-- what a call gets besides the state: a gathering a byte, which may be anything, and an acting what is lent to it
 pub data Call : Type 0 where
   gather : ℕ → Call
   act : Loan → Call
@@ -130,16 +130,9 @@ abbrev pub isActing : Entry → Bool
 isActing (gathers b o) = false
 isActing (acts l o) = true
 
-abbrev pub isWholeReport : Report → Bool
-isWholeReport (refused k) = false
-isWholeReport continues = false
-isWholeReport whole = true
-isWholeReport (stopped k) = false
-isWholeReport (started address size) = false
-
 -- a gathering that answered whole
 abbrev pub completes : Entry → Bool
-completes (gathers b o) = isWholeReport (o .report)
+completes (gathers b o) = reportsWhole (o .report)
 completes (acts l o) = false
 
 -- a frame is whole after these calls: the last accepted one was a gathering that answered whole
