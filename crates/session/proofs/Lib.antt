@@ -10,6 +10,7 @@ pub mod Begins
 pub mod Strings
 pub mod ClientFrames
 pub mod Sending
+pub mod Starts
 pub mod Proved
 pub mod Checked
 pub mod Positions

@@ -26,7 +26,7 @@ use Rattle.endian.proofs.Words.{bytes-length}
 use Rattle.head.proofs.Proved.{head-theorems}
 use Rattle.endian.specs.Lists.{Words}
 use Rattle.session.specs.Reading.{own, digestOf, Allowed, chained, measuredId, Starting}
-use Rattle.session.specs.Session.{Loan, Call, Entry, acts, callOf, reportIn, Among, log, isAccepted, accepted, gatheredBytes, Session, allOf, acceptedOf, hasEnded, lastIs, isActing, completes, frameIsWhole, refusalIn}
+use Rattle.session.specs.Session.{Loan, Call, Entry, acts, callOf, reportIn, Among, log, isAccepted, accepted, gatheredBytes, Session, allOf, acceptedOf, isEnd, hasEnded, lastIs, isActing, completes, frameIsWhole, refusalIn}
 use Rattle.session.specs.Client.{frames, Made}
 use Rattle.session.specs.Boot.{StartedAt, Started, Reads, ActedOn, used, Start, stringAt, Gives, Same, StartOf, VerifiedBoot}
 use Rattle.session.proofs.Frames.{reads-on, no-frames}
@@ -37,6 +37,7 @@ use Rattle.session.proofs.Gathering.{is-part}
 use Rattle.session.proofs.Entries.{lastFrom, last-from}
 use Rattle.session.proofs.Walk.{is-live, Begun, Walk, walk}
 use Rattle.session.proofs.Begins.{Fresh, fresh, Runs, table-from}
+use Rattle.session.proofs.Starts.{whole-before, none-after}
 use Rattle.session.proofs.ClientFrames as made
 use Rattle.session.proofs.Sending.{callsFor, AllAccepted, all-accepted}
 use Rattle.session.proofs.Strings.{same-words, digest-length, id-length, uss-length, same-secret}
@@ -106,6 +107,12 @@ module _ (S : Session) where
         (t .0, t .1, record { among = t .2; address = t .3 .address; size = t .3 .size; answers = t .3 .answers }),
   )
 
+  pub table : (e : Entry) (i : Among e (allOf S)) (k : ℕ)
+      → (reportIn e ≡ refused k) ↔ ((k ≡ refusalIn (hasEnded (i .before)) (frameIsWhole (i .before)) (S .ramLen) (callOf e)) × (k ≡ 0 → ⊥))
+  table e i k =
+      rw (← or-false (hasEnded (i .before)), last-from completes (accepted (i .before)))
+      (table-from (S .ramLen) (S .calls) _ false false (first-runs (S .rec) (S .udi) (S .ramLen) begins) (i .before) (i .after) e (i .place) k)
+
   module _ (t : Start S) where
     leaves : Leaves (S .rec) (S .udi) (S .ramLen) (t .reading .load) (t .reading .blocks) (getD (t .reading .last) 0 0) (t .loan .room) (t .loan .uds) (t .out)
     leaves =
@@ -137,6 +144,7 @@ module _ (S : Session) where
     unfolding inputs
     gives =
         let l = leaves in
+        let a = t .started-at .among in
         record {
           report = l .report;
           cdi = l .cdi;
@@ -145,15 +153,11 @@ module _ (S : Session) where
           front = l .front;
           reply = l .reply;
           room = l .room-after;
+          last-call = none-after (S .ramLen) (allOf S) table (t .loan) (t .out) (a .before) (a .after) (a .place) (ap isEnd (t .started-at .answers));
+          block-whole = whole-before (S .ramLen) (allOf S) table (t .loan) (t .out) (a .before) (a .after) (a .place);
           eight = begun (t .loan) (t .out) (t .started-at) .0 .eight;
           cleared = l .cleared;
         }
-
-  pub table : (e : Entry) (i : Among e (allOf S)) (k : ℕ)
-      → (reportIn e ≡ refused k) ↔ ((k ≡ refusalIn (hasEnded (i .before)) (frameIsWhole (i .before)) (S .ramLen) (callOf e)) × (k ≡ 0 → ⊥))
-  table e i k =
-      rw (← or-false (hasEnded (i .before)), last-from completes (accepted (i .before)))
-      (table-from (S .ramLen) (S .calls) _ false false (first-runs (S .rec) (S .udi) (S .ramLen) begins) (i .before) (i .after) e (i .place) k)
 
 pub injective : (S S′ : Session) (t : Start S) (t′ : Start S′) → stringAt t ≡ stringAt t′ → Same t t′
 unfolding inputs

@@ -17,7 +17,7 @@ use Rattle.endian.specs.Lists.{zeros, Words}
 use Rattle.head.specs.Answers.{refused, started, Outcome}
 use Rattle.head.specs.Begin.{beginning}
 use Rattle.session.specs.Reading.{sizeOf, programOf, digestOf, Allowed, chained, measuredId, Starting}
-use Rattle.session.specs.Session.{Loan, Entry, acts, callOf, reportIn, Among, isAccepted, gatheredBytes, Session, allOf, acceptedOf, hasEnded, lastIs, isActing, frameIsWhole, refusalIn}
+use Rattle.session.specs.Session.{Loan, Entry, acts, callOf, reportIn, Among, isAccepted, gatheredBytes, Session, allOf, acceptedOf, hasEnded, lastIs, isActing, completes, frameIsWhole, refusalIn}
 
 -- an accepted acting of the session answered a start
 pub record StartedAt (S : Session) (l : Loan) (o : Outcome) : Type 0 where
@@ -82,6 +82,9 @@ pub record Gives {S : Session} (t : Start S) : Type 0 where
   -- the reply to the last block, and no other byte of the room
   pub reply : t .out .reply ≡ 129
   pub room : t .out .room ≡ putIn (t .loan .room) (sent (digestReply (getD (t .reading .last) 0 0) (digest (t .reading))))
+  -- it is the last accepted call; the one before it made the last block whole, and so every byte had come before the start
+  pub last-call : t .started-at .among .after ≡ []
+  pub block-whole : lastIs completes (t .started-at .among .before) ≡ true
   -- eight words at entry, and each of them zero at exit
   pub eight : length (t .loan .uds) ≡ 8
   pub cleared : t .out .uds ≡ zeros 8
