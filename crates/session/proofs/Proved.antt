@@ -35,9 +35,9 @@ use Rattle.session.proofs.Acting.{is-waiting, Leaves}
 use Rattle.session.proofs.Calls.{Live}
 use Rattle.session.proofs.Gathering.{is-part}
 use Rattle.session.proofs.Entries.{lastFrom, last-from}
-use Rattle.session.proofs.Walk.{is-live, Begun, Walk, walk}
+use Rattle.session.proofs.Walk.{is-live, StartRead, Walk, walk}
 use Rattle.session.proofs.Begins.{Fresh, fresh, Runs, table-from}
-use Rattle.session.proofs.Starts.{whole-before, none-after}
+use Rattle.session.proofs.Starts.{whole-before, nothing-after}
 use Rattle.session.proofs.ClientFrames as made
 use Rattle.session.proofs.Sending.{callsFor, AllAccepted, all-accepted}
 use Rattle.session.proofs.Strings.{same-words, digest-length, id-length, uss-length, same-secret}
@@ -96,7 +96,7 @@ module _ (S : Session) where
       walk (S .rec) (S .udi) (S .ramLen) (S .calls) [] false [] _ (S .ram) (is-live (first-live (S .rec) (S .udi) (S .ramLen) (S .ram) begins)) (S .one-ram)
 
   begun : (l : Loan) (o : Outcome) → StartedAt S l o
-      → Begun (S .rec) (S .udi) (S .ramLen) (gatheredBytes (acceptedOf S)) l o × (lastFrom isActing false (acceptedOf S) ≡ true)
+      → StartRead (S .rec) (S .udi) (S .ramLen) (gatheredBytes (acceptedOf S)) l o × (lastFrom isActing false (acceptedOf S) ≡ true)
   begun l o t = walked .only l o (t .among) (record { address = t .address; size = t .size; answers = t .answers })
 
   pub exactly : Started S ↔ (Reads S × ActedOn S)
@@ -153,7 +153,7 @@ module _ (S : Session) where
           front = l .front;
           reply = l .reply;
           room = l .room-after;
-          last-call = none-after (S .ramLen) (allOf S) table (t .loan) (t .out) (a .before) (a .after) (a .place) (ap isEnd (t .started-at .answers));
+          last-call = nothing-after (S .ramLen) (allOf S) table (t .loan) (t .out) (a .before) (a .after) (a .place) (ap isEnd (t .started-at .answers));
           block-whole = whole-before (S .ramLen) (allOf S) table (t .loan) (t .out) (a .before) (a .after) (a .place);
           eight = begun (t .loan) (t .out) (t .started-at) .0 .eight;
           cleared = l .cleared;

@@ -95,8 +95,8 @@ module _ (m : ℕ) (es : List Entry)
         go false true k q = refl
         go false false k q = absurd (omega arith)
 
-    pub none-after : isEnd (o .report) ≡ true → after ≡ []
-    none-after r = go after place
+    pub nothing-after : isEnd (o .report) ≡ true → after ≡ []
+    nothing-after r = go after place
       where
         over : (c : Call) (full : Bool) → refusalIn true full m c ≡ 2
         over (gather b) full = refl

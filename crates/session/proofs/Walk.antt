@@ -44,14 +44,14 @@ module _ (rec udi : List ℕ) (m : ℕ) where
   acting-on os bs s r acting l (is-full f v n) z e = (f, v, after-act rec udi m os f bs s l (subst (Full rec udi m os f bs s) (sym e) v) z)
 
   -- the start that an acting answered, where these are the accepted bytes
-  pub record Begun (bs : List ℕ) (l : Loan) (o : Outcome) : Type 0 where
+  pub record StartRead (bs : List ℕ) (l : Loan) (o : Outcome) : Type 0 where
     pub reading : Starting rec m bs
     pub leaves : Leaves rec udi m (reading .load) (reading .blocks) (getD (reading .last) 0 0) (l .room) (l .uds) o
     pub eight : length (l .uds) ≡ 8
 
   pub record Walk (acting : Bool) (bs : List ℕ) (es : List Entry) : Type 0 where
     pub only : (l : Loan) (o : Outcome) → Among (acts l o) es → Answered o
-        → Begun (bs ++ gatheredBytes es) l o × (lastFrom isActing acting es ≡ true)
+        → StartRead (bs ++ gatheredBytes es) l o × (lastFrom isActing acting es ≡ true)
     pub whenever : Starting rec m (bs ++ gatheredBytes es) → lastFrom isActing acting es ≡ true
         → (l : Loan) × (o : Outcome) × Among (acts l o) es × Answered o
 
@@ -78,9 +78,9 @@ module _ (rec udi : List ℕ) (m : ℕ) where
       p = append-assoc bs (b ∷ []) (gatheredBytes es)
 
       only : (l : Loan) (o : Outcome) → (acts l o ≡ gathers b g) ⊎ Among (acts l o) es → Answered o
-          → Begun (bs ++ b ∷ gatheredBytes es) l o × (lastFrom isActing false es ≡ true)
+          → StartRead (bs ++ b ∷ gatheredBytes es) l o × (lastFrom isActing false es ≡ true)
       only l o (inl q) a = impossible cc
-      only l o (inr j) a = let t = w .only l o j a in (subst (λ (x : List ℕ). Begun x l o) p (t .0), t .1)
+      only l o (inr j) a = let t = w .only l o j a in (subst (λ (x : List ℕ). StartRead x l o) p (t .0), t .1)
 
   act-first : (acting : Bool) (bs : List ℕ) (l : Loan) (o : Outcome) (es : List Entry) → o .report ≡ continues → Walk true bs es
       → Walk acting bs (acts l o ∷ es)
@@ -91,20 +91,20 @@ module _ (rec udi : List ℕ) (m : ℕ) where
       }
     where
       only : (k : Loan) (x : Outcome) → (acts k x ≡ acts l o) ⊎ Among (acts k x) es → Answered x
-          → Begun (bs ++ gatheredBytes es) k x × (lastFrom isActing true es ≡ true)
+          → StartRead (bs ++ gatheredBytes es) k x × (lastFrom isActing true es ≡ true)
       only k x (inl q) a =
           let t : started (a .address) (a .size) ≡ continues = sym (a .answers) ∙ ap reportIn q ∙ r in
           impossible cc
       only k x (inr j) a = w .only k x j a
 
-  start-last : (acting : Bool) (bs : List ℕ) (l : Loan) (o : Outcome) → Begun bs l o → Walk acting bs (acts l o ∷ [])
+  start-last : (acting : Bool) (bs : List ℕ) (l : Loan) (o : Outcome) → StartRead bs l o → Walk acting bs (acts l o ∷ [])
   start-last acting bs l o b =
       record {
         only = λ k x i a. only k x (among-cases (acts l o) (acts k x) [] i);
         whenever = λ d e. (l, o, among-first (acts l o) [], record { address = _; size = _; answers = b .leaves .report });
       }
     where
-      only : (k : Loan) (x : Outcome) → (acts k x ≡ acts l o) ⊎ Among (acts k x) [] → Begun (bs ++ []) k x × (_≡_ {A = Bool} true true)
+      only : (k : Loan) (x : Outcome) → (acts k x ≡ acts l o) ⊎ Among (acts k x) [] → StartRead (bs ++ []) k x × (_≡_ {A = Bool} true true)
       only k x (inl q) = let el : k ≡ l = cc in let eo : x ≡ o = cc in (rw (append-nil bs, el, eo) b, refl)
       only k x (inr j) = absurd (among-none (acts k x) j)
 
@@ -114,7 +114,7 @@ module _ (rec udi : List ℕ) (m : ℕ) where
       record { only = λ l o i a. only l o (among-cases e (acts l o) [] i) a; whenever = λ d q. absurd (z d) }
     where
       only : (l : Loan) (o : Outcome) → (acts l o ≡ e) ⊎ Among (acts l o) [] → Answered o
-          → Begun (bs ++ gatheredBytes (e ∷ [])) l o × (isActing e ≡ true)
+          → StartRead (bs ++ gatheredBytes (e ∷ [])) l o × (isActing e ≡ true)
       only l o (inl q) a =
           let t : started (a .address) (a .size) ≡ stopped k = sym (a .answers) ∙ ap reportIn q ∙ r in
           impossible cc

@@ -34,7 +34,8 @@ Started S = (l : Loan) × (o : Outcome) × StartedAt S l o
 abbrev pub Reads : Session → Type 0
 Reads S = Starting (S .rec) (S .ramLen) (gatheredBytes (acceptedOf S))
 
--- and the last block was acted on: the last accepted call is an acting
+-- and the last block was acted on: the last accepted call is an acting. Where the bytes read as those of a start, the last of them made the last
+-- block whole, and while it is whole only an acting is accepted (`table`): so this one is on that block
 abbrev pub ActedOn : Session → Type 0
 ActedOn S = lastIs isActing (acceptedOf S) ≡ true
 

@@ -142,10 +142,10 @@ frameIsWhole es = lastIs completes (accepted es)
 -- the table of refused calls in the words of a session, 0 for a call that is not refused: whether the head has ended, whether a frame is whole,
 -- the RAM's length at begin, and the call. Number 1 is not in it: no state reached from a begin is out of range (specs/Ranges.antt)
 abbrev pub refusalIn : Bool → Bool → ℕ → Call → ℕ
-refusalIn ended full m (gather b) = cond ended 2 (cond full 47 0)
-refusalIn ended full m (act l) =
+refusalIn ended wholeFrame m (gather b) = cond ended 2 (cond wholeFrame 47 0)
+refusalIn ended wholeFrame m (act l) =
     cond ended 2
-    (cond (not full) 47
+    (cond (not wholeFrame) 47
     (cond (ltb (length (l .room)) 129) 3
     (cond (not (eqb (length (l .ram)) m)) 4
     (cond (not (eqb (length (l .uds)) 8)) 5 0))))
