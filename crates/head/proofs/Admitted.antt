@@ -1,4 +1,4 @@
--- A call that is not refused.
+-- A call by the number of its refusal: refused, or not.
 use Prim.Native.Nat.{ℕ, _≤_}
 use mathlib.Core.Bool.{Bool, true, false, not, cond}
 use mathlib.Core.Path.{_≡_, refl}

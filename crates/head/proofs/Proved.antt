@@ -18,8 +18,8 @@ use Rattle.head.specs.Answers.{Report, refused, continues, whole, stoppe
 use Rattle.head.specs.Begin.{Beginning, ending, waitingWith, configOf, byType, beginning}
 use Rattle.head.specs.Gather.{gatherRefusal, withIncoming, gathered}
 use Rattle.head.specs.Act.{starting, actRefusal, refusing, acted}
-use Rattle.head.specs.Theorems.{HeadTheorems, withUds, withCdi, refusalDue}
-use Rattle.head.proofs.Ranges.{by-test, range-facts}
+use Rattle.head.specs.Theorems.{HeadTheorems, withUds, withCdi}
+use Rattle.head.proofs.Ranges.{by-test, range-facts, in-range, ram-ok}
 use Rattle.head.proofs.Admitted.{act-admitted}
 use Rattle.head.proofs.Ways.{by-gather, Writes, called, by-words, act-called, by-act}
 use Rattle.record.specs.Record.{recordAt}
@@ -109,14 +109,6 @@ same-answer (Started a n) Whole e = cc
 same-answer (Started a n) (Stopped y) e = cc
 
 -- ---- the range
-
-in-range : (s : State) → lengthOk (s .config .«ram_len») ≡ true → incomingOk (s .incoming) ≡ true → progressOk (s .progress) (s .config .«ram_len») ≡ true
-    → inRange s ≡ true
-unfolding inRange
-in-range s r i p = rw (r, i, p)
-
-ram-ok : (s : State) → inRange s ≡ true → lengthOk (s .config .«ram_len») ≡ true
-ram-ok s e = let f = range-facts s e in simp (le-leb 1 (s .config .«ram_len») (f .ram-some), le-leb (s .config .«ram_len») 131072 (f .ram-small))
 
 started-ok : (m : ℕ) → lengthOk m ≡ true → inRange (ended phase.Started m) ≡ true
 unfolding ended
@@ -216,7 +208,14 @@ module _ (s : State) (room ram uds : List ℕ) where
   abbrev m : ℕ
   m = s .config .«ram_len»
 
-  stays : inRange s ≡ true → inRange (acted s room ram uds .state) ≡ true
+  -- the number that the call is refused with, 0 for none
+  abbrev due : ℕ
+  due = actRefusal s (length room) (length ram) (length uds)
+
+  abbrev out : Outcome
+  out = acted s room ram uds
+
+  stays : inRange s ≡ true → inRange (out .state) ≡ true
   unfolding starting
   stays =
       by-act s room ram uds (λ (o : Outcome). inRange s ≡ true → inRange (o .state) ≡ true)
@@ -229,10 +228,10 @@ module _ (s : State) (room ram uds : List ℕ) where
         fail = λ d ram1 y r. stopped-ok m (ram-ok s r);
       })
 
-  refused-only : (k : ℕ) → acted s room ram uds .report ≡ refused k → (k ≡ refusalDue s room ram uds) × (k ≡ 0 → ⊥)
+  refused-only : (k : ℕ) → out .report ≡ refused k → (k ≡ due) × (k ≡ 0 → ⊥)
   unfolding starting
   refused-only k =
-      by-act s room ram uds (λ (o : Outcome). o .report ≡ refused k → (k ≡ refusalDue s room ram uds) × (k ≡ 0 → ⊥))
+      by-act s room ram uds (λ (o : Outcome). o .report ≡ refused k → (k ≡ due) × (k ≡ 0 → ⊥))
       (record {
         refused = λ j e n q. let z : k ≡ j = cc in (z ∙ e, λ x. n (sym z ∙ x));
         halt = λ w n q. impossible cc;
@@ -242,11 +241,11 @@ module _ (s : State) (room ram uds : List ℕ) where
         fail = λ d ram1 y q. impossible cc;
       })
 
-  refused-when : (k : ℕ) → (k ≡ refusalDue s room ram uds) × (k ≡ 0 → ⊥) → acted s room ram uds .report ≡ refused k
+  refused-when : (k : ℕ) → (k ≡ due) × (k ≡ 0 → ⊥) → out .report ≡ refused k
   unfolding acted
   refused-when k h = rw (← (h .0), ne-eqb k 0 (h .1))
 
-  kept : (k : ℕ) → acted s room ram uds .report ≡ refused k → acted s room ram uds ≡ refusing k s room ram uds
+  kept : (k : ℕ) → out .report ≡ refused k → out ≡ refusing k s room ram uds
   unfolding starting
   kept k =
       by-act s room ram uds (λ (o : Outcome). o .report ≡ refused k → o ≡ refusing k s room ram uds)
@@ -259,7 +258,7 @@ module _ (s : State) (room ram uds : List ℕ) where
         fail = λ d ram1 y q. impossible cc;
       })
 
-  fits : acted s room ram uds .reply ≤ 129
+  fits : out .reply ≤ 129
   unfolding starting
   fits =
       by-act s room ram uds (λ (o : Outcome). o .reply ≤ 129)
@@ -283,7 +282,7 @@ module _ (s : State) (room ram uds : List ℕ) where
   unfolding digestReply
   after-digest h d = after-reply (digestReply h d) 129 (protocol .lengths h [] d true .4 .1)
 
-  beyond : Beyond (acted s room ram uds)
+  beyond : Beyond out
   unfolding starting
   beyond =
       by-act s room ram uds Beyond
@@ -296,31 +295,31 @@ module _ (s : State) (room ram uds : List ℕ) where
         fail = λ d ram1 y. after-digest (s .incoming .header) d;
       })
 
-  goes-on : acted s room ram uds .report ≡ continues
-      → (acted s room ram uds .state .incoming ≡ idle) × (acted s room ram uds .state .config ≡ s .config) × (acted s room ram uds .uds ≡ uds)
-      × (acted s room ram uds .cdi ≡ zeros 32) × (acted s room ram uds .digest ≡ zeros 32)
+  goes-on : out .report ≡ continues
+      → (1 ≤ out .reply) × (out .state .incoming ≡ idle) × (out .state .config ≡ s .config) × (out .uds ≡ uds)
+      × (out .cdi ≡ zeros 32) × (out .digest ≡ zeros 32)
   unfolding starting
   goes-on =
       by-act s room ram uds
-      (λ (o : Outcome). o .report ≡ continues → (o .state .incoming ≡ idle) × (o .state .config ≡ s .config) × (o .uds ≡ uds) × (o .cdi ≡ zeros 32) × (o .digest ≡ zeros 32))
+      (λ (o : Outcome). o .report ≡ continues → (1 ≤ o .reply) × (o .state .incoming ≡ idle) × (o .state .config ≡ s .config) × (o .uds ≡ uds) × (o .cdi ≡ zeros 32) × (o .digest ≡ zeros 32))
       (record {
         refused = λ j e n q. impossible cc;
         halt = λ w n q. impossible cc;
-        reply = λ r f q. (refl, refl, refl, refl, refl);
-        progress = λ r f p ram1 o v y q. (refl, refl, refl, refl, refl);
+        reply = λ r f q. (omega arith, refl, refl, refl, refl, refl);
+        progress = λ r f p ram1 o v y q. (omega arith, refl, refl, refl, refl, refl);
         start = λ d ram1 y q. impossible cc;
         fail = λ d ram1 y q. impossible cc;
       })
 
   -- while the session goes on, the head is live
-  was-live : acted s room ram uds .report ≡ continues → live (s .progress .phase) ≡ true
-  was-live q = go (eqb (refusalDue s room ram uds) 0) refl
+  was-live : out .report ≡ continues → live (s .progress .phase) ≡ true
+  was-live q = go (eqb (due) 0) refl
     where
-      go : (t : Bool) → eqb (refusalDue s room ram uds) 0 ≡ t → live (s .progress .phase) ≡ true
-      go true z = act-admitted s (length room) (length ram) (length uds) (eqb-true (refusalDue s room ram uds) 0 z) .goes
-      go false z = let e = sym (refused-when (refusalDue s room ram uds) (refl, eqb-false (refusalDue s room ram uds) 0 z)) ∙ q in impossible cc
+      go : (t : Bool) → eqb (due) 0 ≡ t → live (s .progress .phase) ≡ true
+      go true z = act-admitted s (length room) (length ram) (length uds) (eqb-true (due) 0 z) .goes
+      go false z = let e = sym (refused-when (due) (refl, eqb-false (due) 0 z)) ∙ q in impossible cc
 
-  lives : acted s room ram uds .report ≡ continues → live (acted s room ram uds .state .progress .phase) ≡ true
+  lives : out .report ≡ continues → live (out .state .progress .phase) ≡ true
   unfolding starting
   lives r =
       by-act s room ram uds (λ (o : Outcome). o .report ≡ continues → live (o .state .progress .phase) ≡ true)
@@ -333,7 +332,7 @@ module _ (s : State) (room ram uds : List ℕ) where
         fail = λ d ram1 y q. impossible cc;
       }) r
 
-  no-whole : acted s room ram uds .report ≡ whole → ⊥
+  no-whole : out .report ≡ whole → ⊥
   unfolding starting
   no-whole =
       by-act s room ram uds (λ (o : Outcome). o .report ≡ whole → ⊥)
@@ -351,7 +350,7 @@ module _ (s : State) (room ram uds : List ℕ) where
       (23 ≤ k) × (k ≤ 25) × (o .state ≡ ended phase.Stopped m) × (o .uds ≡ uds) × (o .cdi ≡ zeros 32) × (o .digest ≡ zeros 32)
       × (o .reply ≡ cond (eqb k 25) 129 0) × ((k ≡ 25 → ⊥) → (o .room ≡ room) × (o .ram ≡ ram))
 
-  stops : (k : ℕ) → acted s room ram uds .report ≡ stopped k → Stops k (acted s room ram uds)
+  stops : (k : ℕ) → out .report ≡ stopped k → Stops k out
   unfolding starting
   stops k =
       by-act s room ram uds (λ (o : Outcome). o .report ≡ stopped k → Stops k o)
@@ -369,9 +368,9 @@ module _ (s : State) (room ram uds : List ℕ) where
             (omega arith, omega arith, refl, refl, refl, refl, rw (eq-eqb k 25 z), λ x. absurd (x z));
       })
 
-  starts : (address size : ℕ) → acted s room ram uds .report ≡ started address size
-      → (address ≡ 0x40000000) × (size ≡ s .progress .size) × (acted s room ram uds .state ≡ ended phase.Started m)
-      × (acted s room ram uds .uds ≡ zeros 8) × (acted s room ram uds .reply ≡ 129)
+  starts : (address size : ℕ) → out .report ≡ started address size
+      → (address ≡ 0x40000000) × (size ≡ s .progress .size) × (out .state ≡ ended phase.Started m)
+      × (out .uds ≡ zeros 8) × (out .reply ≡ 129)
   unfolding starting
   starts a n =
       by-act s room ram uds
@@ -386,7 +385,7 @@ module _ (s : State) (room ram uds : List ℕ) where
         fail = λ d ram1 y q. impossible cc;
       })
 
-  beyond-block : Writes s (acted s room ram uds .ram) ram
+  beyond-block : Writes s (out .ram) ram
   unfolding starting
   beyond-block =
       by-act s room ram uds (λ (o : Outcome). Writes s (o .ram) ram)
@@ -399,7 +398,7 @@ module _ (s : State) (room ram uds : List ℕ) where
         fail = λ d ram1 y. y;
       })
 
-  without-reply : acted s room ram uds .reply ≡ 0 → acted s room ram uds .ram ≡ ram
+  without-reply : out .reply ≡ 0 → out .ram ≡ ram
   unfolding starting
   without-reply =
       by-act s room ram uds (λ (o : Outcome). o .reply ≡ 0 → o .ram ≡ ram)
@@ -416,7 +415,7 @@ module _ (s : State) (room ram uds : List ℕ) where
   Unread f =
       ((a n : ℕ) → f uds .report ≡ started a n → ⊥) → (f uds .uds ≡ uds) × ((other : List ℕ) → f other ≡ withUds (f uds) other)
 
-  unread : Unread (called (refusalDue s room ram uds) s room ram)
+  unread : Unread (called (due) s room ram)
   unfolding starting
   unread =
       by-words s room ram (length uds) Unread
@@ -429,16 +428,16 @@ module _ (s : State) (room ram uds : List ℕ) where
         fail = λ d ram1 y q. (refl, λ o. refl);
       })
 
-  secret : ((a n : ℕ) → acted s room ram uds .report ≡ started a n → ⊥)
-      → (acted s room ram uds .uds ≡ uds)
-      × ((other : List ℕ) → length other ≡ length uds → acted s room ram other ≡ withUds (acted s room ram uds) other)
+  secret : ((a n : ℕ) → out .report ≡ started a n → ⊥)
+      → (out .uds ≡ uds)
+      × ((other : List ℕ) → length other ≡ length uds → acted s room ram other ≡ withUds out other)
   unfolding acted
   secret r = let u = unread r in (u .0, λ o e. act-called s room ram (length uds) o e ∙ u .1 o)
 
   abbrev OnlyCdi : ℕ → ℕ → (List ℕ → Outcome) → Type 0
   OnlyCdi a n f = f uds .report ≡ started a n → (other : List ℕ) → f other ≡ withCdi (f uds) (f other .cdi)
 
-  only-cdi : (a n : ℕ) → OnlyCdi a n (called (refusalDue s room ram uds) s room ram)
+  only-cdi : (a n : ℕ) → OnlyCdi a n (called (due) s room ram)
   unfolding starting
   only-cdi a n =
       by-words s room ram (length uds) (OnlyCdi a n)
@@ -451,12 +450,12 @@ module _ (s : State) (room ram uds : List ℕ) where
         fail = λ d ram1 y q. impossible cc;
       })
 
-  identity : (a n : ℕ) → acted s room ram uds .report ≡ started a n → (other : List ℕ) → length other ≡ length uds
-      → acted s room ram other ≡ withCdi (acted s room ram uds) (acted s room ram other .cdi)
+  identity : (a n : ℕ) → out .report ≡ started a n → (other : List ℕ) → length other ≡ length uds
+      → acted s room ram other ≡ withCdi out (acted s room ram other .cdi)
   unfolding acted
   identity a n r o e =
       let c = act-called s room ram (length uds) o e in
-      c ∙ only-cdi a n r o ∙ ap (λ (x : Outcome). withCdi (acted s room ram uds) (x .cdi)) (sym c)
+      c ∙ only-cdi a n r o ∙ ap (λ (x : Outcome). withCdi out (x .cdi)) (sym c)
 
 -- ---- begin
 
@@ -511,9 +510,10 @@ head-theorems = record {
     stays = gather-stays s b;
     refuses = λ k. (λ e. let r = gather-refused s b k e in (r .0, r .1), gather-refused-when s b k);
     kept = λ k e. gather-refused s b k e .2;
-    goes-on = gather-goes-on s b;
+    goes-on = λ q. gather-goes-on s b q .0;
     not-whole = gather-not-whole s b;
     is-whole = gather-is-whole s b;
+    lives = λ q. gather-goes-on s b q .1;
     stops = gather-stops s b;
     no-start = gather-no-start s b;
   };

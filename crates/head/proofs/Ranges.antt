@@ -4,7 +4,7 @@ use mathlib.Core.Bool.{Bool, true, false, cond, _||_, or-false, and-eq-true-iff}
 use mathlib.Core.Path.{_≡_, refl, sym, _∙_}
 use native.Mathlib.Omega.{arith}
 use lib.Dec.{eqb, leb}
-use borrow.Author.Tests.{eqb-true, ltb-true, leb-true}
+use borrow.Author.Tests.{eqb-true, ltb-true, leb-true, le-leb}
 use Rattle.endian.proofs.Cases.{impossible}
 use Rattle.framing.specs.Header.{Reading, good, headerAt, lengthOf, bodyLen}
 use Rattle.framing.proofs.Headers.{by-bits, body-small}
@@ -118,3 +118,12 @@ range-facts s e =
       incoming = d .0;
       progress = d .1;
     }
+
+-- and back
+pub in-range : (s : State) → lengthOk (s .config .«ram_len») ≡ true → incomingOk (s .incoming) ≡ true → progressOk (s .progress) (s .config .«ram_len») ≡ true
+    → inRange s ≡ true
+unfolding inRange
+in-range s r i p = rw (r, i, p)
+
+pub ram-ok : (s : State) → inRange s ≡ true → lengthOk (s .config .«ram_len») ≡ true
+ram-ok s e = let f = range-facts s e in simp (le-leb 1 (s .config .«ram_len») (f .ram-some), le-leb (s .config .«ram_len») 131072 (f .ram-small))

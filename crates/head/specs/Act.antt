@@ -52,7 +52,7 @@ requestIn phase.Loading c n = requestLoading c n
 requestIn phase.Started c n = halts 23
 requestIn phase.Stopped c n = halts 23
 
--- the bytes of the frame that was gathered
+-- the whole frame: its header and the gathered bytes, which a shorter body does not fill
 abbrev pub frameIn : State → List ℕ
 frameIn s = s .incoming .header ∷ s .incoming .body
 

@@ -1,4 +1,7 @@
--- The state of a head between two calls, and the range of each field: refusal 1 of document 01, docs/STATES.md, which says what each holds.
+-- The state of a head between two calls, and the range of each field: refusal 1 of document 01, docs/STATES.md. Its parts and their fields:
+-- incoming, the frame that is being gathered or is whole: header, got (how many of its bytes have come, the header among them), body;
+-- config, what begin fixed: ram_len, verify, required, chained, measured_id, udi;
+-- progress, how far the load is: phase, size, block (the number of the next), uss_used, uss.
 use Prim.Native.Nat.{ℕ, _+_}
 use mathlib.Core.Bool.{Bool, true, false, not, cond, _&&_, _||_}
 use lib.Dec.{eqb, leb, ltb}

@@ -20,11 +20,10 @@ use Rattle.head.specs.declared.Incoming.{Incoming}
 use Rattle.head.specs.declared.State.{State}
 use Rattle.head.specs.declared.Answer.{Answer}
 
--- bytes taken one after the other, until a header is bad
-abbrev pub stepsOn : List ℕ → Step → Step
-stepsOn [] x = x
-stepsOn (b ∷ bs) (taken i) = stepsOn bs (byteStep i b)
-stepsOn (b ∷ bs) bad = bad
+-- after the gathering g, bytes gathered one after the other
+abbrev pub gatheredOn : List ℕ → Gathering → Gathering
+gatheredOn [] g = g
+gatheredOn (b ∷ bs) g = gatheredOn bs (gathered (g .state) b)
 
 -- x is y but for the bytes of the block that the state waits for; while it waits for a load these are none, and x is y
 abbrev pub SameButBlock : State → List ℕ → List ℕ → Type 0
@@ -73,63 +72,61 @@ module _ (s : State) (b : ℕ) where
     -- a call answers the number of a refusal exactly when that is the number of its state, which it then returns
     pub refuses : (k : ℕ) → (afterGather .report ≡ refused k) ↔ ((k ≡ gatherRefusal s) × (k ≡ 0 → ⊥))
     pub kept : (k : ℕ) → afterGather .report ≡ refused k → afterGather .state ≡ s
-    -- while the session goes on, only the frame that is being gathered changes; the answer says whether it is whole
-    pub goes-on : (afterGather .report ≡ continues) ⊎ (afterGather .report ≡ whole)
-        → (afterGather .state ≡ withIncoming s (afterGather .state .incoming)) × (live (s .progress .phase) ≡ true)
+    -- while the session goes on, only the frame that is being gathered changes, and the answer says whether it is whole
+    pub goes-on : (afterGather .report ≡ continues) ⊎ (afterGather .report ≡ whole) → afterGather .state ≡ withIncoming s (afterGather .state .incoming)
     pub not-whole : afterGather .report ≡ continues → isWhole (afterGather .state .incoming) ≡ false
     pub is-whole : afterGather .report ≡ whole → isWhole (afterGather .state .incoming) ≡ true
+    -- and it had neither started nor stopped
+    pub lives : (afterGather .report ≡ continues) ⊎ (afterGather .report ≡ whole) → live (s .progress .phase) ≡ true
     -- 22 is the only stop, and the state is then the one of an end; no byte starts a program
     pub stops : (k : ℕ) → afterGather .report ≡ stopped k → (k ≡ 22) × (afterGather .state ≡ ended phase.Stopped (s .config .«ram_len»))
     pub no-start : (address size : ℕ) → afterGather .report ≡ started address size → ⊥
 
 -- acting in any state, in range or not, with anything lent
 module _ (s : State) (room ram uds : List ℕ) where
-  -- the number that the call is refused with, 0 for none
-  abbrev pub refusalDue : ℕ
-  refusalDue = actRefusal s (length room) (length ram) (length uds)
-
   -- what the call leads to
-  abbrev pub after : Outcome
-  after = acted s room ram uds
+  abbrev pub afterAct : Outcome
+  afterAct = acted s room ram uds
 
   pub record ActProperties : Type 0 where
     -- a state in range stays in range
-    pub stays : inRange s ≡ true → inRange (after .state) ≡ true
+    pub stays : inRange s ≡ true → inRange (afterAct .state) ≡ true
     -- a call answers the number of a refusal exactly when that is the number of its state and of what is lent; it then returns what it was
     -- given
-    pub refuses : (k : ℕ) → (after .report ≡ refused k) ↔ ((k ≡ refusalDue) × (k ≡ 0 → ⊥))
-    pub kept : (k : ℕ) → after .report ≡ refused k → after ≡ refusing k s room ram uds
+    pub refuses : (k : ℕ) → (afterAct .report ≡ refused k) ↔ ((k ≡ actRefusal s (length room) (length ram) (length uds)) × (k ≡ 0 → ⊥))
+    pub kept : (k : ℕ) → afterAct .report ≡ refused k → afterAct ≡ refusing k s room ram uds
     -- a reply has at most 129 bytes, and beyond it the room is as it was
-    pub fits : after .reply ≤ 129
-    pub beyond : drop (after .reply) (after .room) ≡ drop (after .reply) room
+    pub fits : afterAct .reply ≤ 129
+    pub beyond : drop (afterAct .reply) (afterAct .room) ≡ drop (afterAct .reply) room
     -- only the block's bytes of RAM are written, and those only by a call that replies; that the gathered body has 128 bytes is its type in
     -- the code
-    pub beyond-block : length (s .incoming .body) ≡ 128 → SameButBlock s (after .ram) ram
-    pub without-reply : after .reply ≡ 0 → after .ram ≡ ram
-    -- while the session goes on, nothing is left of the frame, what begin fixed and the UDS stay, and neither CDI nor digest is given
-    pub goes-on : after .report ≡ continues
-        → (after .state .incoming ≡ idle) × (after .state .config ≡ s .config) × (after .uds ≡ uds)
-        × (after .cdi ≡ zeros 32) × (after .digest ≡ zeros 32)
+    pub beyond-block : length (s .incoming .body) ≡ 128 → SameButBlock s (afterAct .ram) ram
+    pub without-reply : afterAct .reply ≡ 0 → afterAct .ram ≡ ram
+    -- while the session goes on there is a reply, nothing is left of the frame, what begin fixed and the UDS stay, and neither CDI nor digest is
+    -- given
+    pub goes-on : afterAct .report ≡ continues
+        → (1 ≤ afterAct .reply) × (afterAct .state .incoming ≡ idle) × (afterAct .state .config ≡ s .config) × (afterAct .uds ≡ uds)
+        × (afterAct .cdi ≡ zeros 32) × (afterAct .digest ≡ zeros 32)
     -- and it has neither started nor stopped
-    pub lives : after .report ≡ continues → live (after .state .progress .phase) ≡ true
+    pub lives : afterAct .report ≡ continues → live (afterAct .state .progress .phase) ≡ true
     -- no acting makes a frame whole
-    pub no-whole : after .report ≡ whole → ⊥
+    pub no-whole : afterAct .report ≡ whole → ⊥
     -- after a stop, 23 to 25, the state is the one of an end and the UDS stays; only 25 has a reply, and only it comes after RAM was written
-    pub stops : (k : ℕ) → after .report ≡ stopped k
-        → (23 ≤ k) × (k ≤ 25) × (after .state ≡ ended phase.Stopped (s .config .«ram_len»)) × (after .uds ≡ uds)
-        × (after .cdi ≡ zeros 32) × (after .digest ≡ zeros 32)
-        × (after .reply ≡ cond (eqb k 25) 129 0)
-        × ((k ≡ 25 → ⊥) → (after .room ≡ room) × (after .ram ≡ ram))
+    pub stops : (k : ℕ) → afterAct .report ≡ stopped k
+        → (23 ≤ k) × (k ≤ 25) × (afterAct .state ≡ ended phase.Stopped (s .config .«ram_len»)) × (afterAct .uds ≡ uds)
+        × (afterAct .cdi ≡ zeros 32) × (afterAct .digest ≡ zeros 32)
+        × (afterAct .reply ≡ cond (eqb k 25) 129 0)
+        × ((k ≡ 25 → ⊥) → (afterAct .room ≡ room) × (afterAct .ram ≡ ram))
     -- after a start the state is the one of an end, and each word of the UDS is zero
-    pub starts : (address size : ℕ) → after .report ≡ started address size
-        → (address ≡ 0x40000000) × (size ≡ s .progress .size) × (after .state ≡ ended phase.Started (s .config .«ram_len»))
-        × (after .uds ≡ zeros 8) × (after .reply ≡ 129)
+    pub starts : (address size : ℕ) → afterAct .report ≡ started address size
+        → (address ≡ 0x40000000) × (size ≡ s .progress .size) × (afterAct .state ≡ ended phase.Started (s .config .«ram_len»))
+        × (afterAct .uds ≡ zeros 8) × (afterAct .reply ≡ 129)
     -- only a start depends on the UDS (document 01: it is read only at a start): a call that answers none leaves its words, and does the same
     -- with any others, if they are as many; with others a start may give another CDI, and all else is the same
-    pub secret : ((address size : ℕ) → after .report ≡ started address size → ⊥)
-        → (after .uds ≡ uds) × ((other : List ℕ) → length other ≡ length uds → acted s room ram other ≡ withUds after other)
-    pub identity : (address size : ℕ) → after .report ≡ started address size
-        → (other : List ℕ) → length other ≡ length uds → acted s room ram other ≡ withCdi after (acted s room ram other .cdi)
+    pub secret : ((address size : ℕ) → afterAct .report ≡ started address size → ⊥)
+        → (afterAct .uds ≡ uds) × ((other : List ℕ) → length other ≡ length uds → acted s room ram other ≡ withUds afterAct other)
+    pub identity : (address size : ℕ) → afterAct .report ≡ started address size
+        → (other : List ℕ) → length other ≡ length uds → acted s room ram other ≡ withCdi afterAct (acted s room ram other .cdi)
 
 pub record HeadTheorems : Type 0 where
   -- the reported number and values settle the answer
@@ -141,10 +138,14 @@ pub record HeadTheorems : Type 0 where
   pub no-session : (bytes udi : List ℕ) (m : ℕ) → (beginning bytes udi m .report ≡ continues → ⊥)
       → ((b : ℕ) → gathered (beginning bytes udi m .state) b ≡ record { report = refused 2; state = beginning bytes udi m .state })
       × ((room ram uds : List ℕ) → acted (beginning bytes udi m .state) room ram uds ≡ refusing 2 (beginning bytes udi m .state) room ram uds)
-  -- a good frame gathered from its header to its last byte: one for the firmware is whole, with its body at the front of the gathered bytes; one
-  -- for another endpoint leaves nothing
-  pub frame : (i : Incoming) (h id ep n : ℕ) (body : List ℕ) → i .got ≡ 0 → length (i .body) ≡ 128 → headerAt h ≡ good id ep n → length body ≡ n
-      → stepsOn (h ∷ body) (taken i) ≡ taken (cond (eqb ep 2) (record { header = h; got = n + 1; body = paste (i .body) 0 body n }) idle)
+  -- a good frame gathered between frames, from its header to its last byte: one for the firmware is whole, with its body at the front of the
+  -- gathered bytes; one for another endpoint leaves nothing
+  pub frame : (s : State) (h id ep n : ℕ) (body : List ℕ) → gatherRefusal s ≡ 0 → s .incoming .got ≡ 0 → length (s .incoming .body) ≡ 128
+      → headerAt h ≡ good id ep n → length body ≡ n
+      → gatheredOn body (gathered s h) ≡ record {
+        report = cond (eqb ep 2) whole continues;
+        state = withIncoming s (cond (eqb ep 2) (record { header = h; got = n + 1; body = paste (s .incoming .body) 0 body n }) idle);
+      }
   -- in the body of a frame for another endpoint it makes no difference what the byte is: none enters the state
   pub passed-over : (s : State) (b b' : ℕ) (id ep n : ℕ) → (s .incoming .got ≡ 0 → ⊥)
       → headerAt (s .incoming .header) ≡ good id ep n → (ep ≡ 2 → ⊥) → gathered s b ≡ gathered s b'

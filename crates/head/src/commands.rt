@@ -5,7 +5,6 @@ ghost use Rattle.head.specs.Steps.{requestFor};
 use super::Action;
 use super::Phase;
 use super::State;
-use super::states;
 
 // A command while waiting, by its number and its body's length.
 fn action_waiting(command: u8, len: u8) -> Action

@@ -15,6 +15,7 @@ pub use gathering::gather;
 pub use states::allowed;
 pub use states::ended;
 pub use states::idle;
+pub use states::is_whole;
 
 // Where a session stands.
 pub enum Phase {
@@ -148,7 +149,7 @@ pub enum Action {
     StopLength,
 }
 
-// The number that document 01 gives a refusal.
+// The number of a refusal: document 01's, and 47 of change request 8.
 pub fn refusal_number(r: Refusal) -> u8
     ensures { λ x. ⌜ x ≡ refusalNumber r ⌝ }
 {

@@ -21,10 +21,11 @@ pub use head::Refusal;
 pub use head::State;
 pub use head::Stop;
 pub use head::gather;
+pub use head::is_whole;
 pub use head::refusal_number;
 pub use head::stop_number;
 
-// Begins a session: from the reset record, the device's identity (UDI) and the length of the RAM that will be lent at each call. After a
+// Begins a session: from the reset record, the device's identity (UDI) and the length of the RAM that each `act` will be lent. After a
 // refusal or a stop every later call on the state is refused.
 pub fn begin(record: &[u8], udi: [u8; 8], ram_len: usize) -> Begun
     ensures { λ r. ⌜ beginningOf r ≡ beginning (now («record» .entry)) udi «ram_len» ⌝ }
