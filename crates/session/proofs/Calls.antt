@@ -1,6 +1,7 @@
 -- One accepted call: what the accepted calls so far amount to, and what a gathering and an acting make of it.
 use Prim.Native.Nat.{ℕ, suc, _+_}
 use mathlib.Core.Path.{_≡_, refl, sym, ap, _∙_, subst}
+use mathlib.Core.Logic.{_↔_}
 use mathlib.Core.Bool.{true, false}
 use mathlib.Core.List.{List, [], _∷_, _++_, append-assoc, append-nil, head-eq-of-cons-eq, tail-eq-of-cons-eq, flatten}
 use native.Mathlib.Omega.{arith}
@@ -8,16 +9,18 @@ use lib.ListN.{length, getD, length-append}
 use Rattle.endian.proofs.Cases.{impossible}
 use Rattle.framing.specs.Header.{good, stop, headerAt}
 use Rattle.protocol.specs.Commands.{blocksFor}
-use Rattle.head.specs.State.{isWhole, ended}
+use Rattle.head.specs.State.{isWhole, idle, ended}
 use Rattle.head.specs.Answers.{continues, whole, stopped, Gathering, Outcome}
 use Rattle.head.specs.Gather.{Step, byteStep, gatherRefusal, afterStep, gathered}
 use Rattle.head.specs.Act.{requestOf, performed, actRefusal, acted}
+use Rattle.head.proofs.Ranges.{never}
 use Rattle.head.proofs.Admitted.{gather-admitted-as, act-admitted, act-admitted-as}
 use Rattle.endian.specs.Lists.{All}
 use Rattle.session.specs.Reading.{Good, forFirmware, own, sizeOf, Starting}
 use Rattle.session.specs.Session.{Loan}
-use Rattle.session.proofs.Frames.{All-append, own-append, flatten-snoc, own-more, own-same, same-size, Further, reads-on, good-some}
-use Rattle.session.proofs.Gathering.{holding, Partial, is-part, is-whole, Gathers, at-bad, at-part, at-passed, at-whole, gathers}
+use Rattle.session.specs.Boot.{EndsWhole}
+use Rattle.session.proofs.Frames.{All-append, own-append, flatten-snoc, own-more, own-same, last-same, same-size, Further, reads-on, good-some}
+use Rattle.session.proofs.Gathering.{holding, Partial, is-part, is-whole, Gathers, at-bad, at-part, at-passed, at-whole, length-snoc, gathers}
 use Rattle.session.proofs.Shapes.{Shape, All-last}
 use Rattle.session.proofs.Acting.{empty-rest, grows, at, Doing, Complete, not-yet, Leaves, Replies, Acts, goes, starts, stops, acts}
 use Rattle.head.specs.declared.Phase.the-variants as phase
@@ -61,6 +64,17 @@ none-after (x ∷ xs) ys [] l e o n =
     empty-rest ys (omega arith)
 none-after (x ∷ xs) ys (b ∷ before) l e o n = none-after xs ys before l (tail-eq-of-cons-eq e) o n
 
+-- a start's bytes end in a whole frame
+abbrev pub ends-whole : {rec : List ℕ} {m : ℕ} {bs : List ℕ} → Starting rec m bs → EndsWhole bs
+ends-whole w = record { before = w .before; last = w .last; all-good = w .all-good; nothing-left = w .nothing-left; last-own = w .last-own }
+
+-- bytes that go on after whole frames, and end in one
+further : (bs rest : List ℕ) (fs : List (List ℕ)) (part : List ℕ) → All Good fs → bs ≡ flatten fs ++ part → (w : EndsWhole (bs ++ rest))
+    → Further fs (w .before ++ w .last ∷ []) (part ++ rest)
+further bs rest fs part a e w =
+    reads-on fs (w .before ++ w .last ∷ []) (part ++ rest) a (w .all-good)
+    (sym (append-assoc (flatten fs) part rest) ∙ ap (λ (x : List ℕ). x ++ rest) (sym e) ∙ w .nothing-left)
+
 module _ (rec udi : List ℕ) (m : ℕ) where
   -- bs are the accepted bytes so far, os the frames that were acted on, and r is the RAM that the last accepted acting left; no frame is whole
   pub record Live (os : List (List ℕ)) (bs : List ℕ) (s : State) (r : List ℕ) : Type 0 where
@@ -92,30 +106,38 @@ module _ (rec udi : List ℕ) (m : ℕ) where
   now-whole {f = f} v =
       ap (λ (s : State). isWhole (s .incoming)) (v .state) ∙ is-whole f (All-last Good (v .frames) f [] (v .all-good)) (v .last-own)
 
-  -- bytes that go on after whole frames, read as those of a start
-  further : (bs rest : List ℕ) (fs : List (List ℕ)) (part : List ℕ) → All Good fs → bs ≡ flatten fs ++ part → (w : Starting rec m (bs ++ rest))
-      → Further fs (w .before ++ w .last ∷ []) (part ++ rest)
-  further bs rest fs part a e w =
-      reads-on fs (w .before ++ w .last ∷ []) (part ++ rest) a (w .all-good)
-      (sym (append-assoc (flatten fs) part rest) ∙ ap (λ (x : List ℕ). x ++ rest) (sym e) ∙ w .nothing-left)
-
   abbrev shape-of : {bs : List ℕ} (w : Starting rec m bs) (os : List (List ℕ)) → os ≡ own (w .before ++ w .last ∷ []) → Shape m os
   shape-of w os e = record { opening = w .opening; load = w .load; blocks = w .blocks; order = e ∙ w .order; opens = w .opens; loads = w .loads; carry = w .carry }
 
-  pub not-live : {os : List (List ℕ)} {bs : List ℕ} {s : State} {r : List ℕ} → Live os bs s r → Starting rec m bs → ⊥
-  not-live {os = os} v w =
+  -- where the bytes end in a whole frame, these are all its frames, and no part is left
+  only-frames : {os : List (List ℕ)} {bs : List ℕ} {s : State} {r : List ℕ} (v : Live os bs s r) (w : EndsWhole bs)
+      → (w .before ++ w .last ∷ [] ≡ v .frames) × (v .part ≡ [])
+  unfolding flatten
+  only-frames v w =
       let u = reads-on (v .frames) (w .before ++ w .last ∷ []) (v .part) (v .all-good) (w .all-good) (sym (v .whole) ∙ w .nothing-left) in
       let n = none-partial (v .part) (u .rest) (v .partial) (u .all-good) (u .bytes) in
-      let e : os ≡ own (w .before ++ w .last ∷ []) =
-      sym (v .owned) ∙ ap own (sym (append-nil (v .frames)) ∙ ap (λ (x : List (List ℕ)). v .frames ++ x) (sym n) ∙ sym (u .frames)) in
+      (u .frames ∙ ap (λ (x : List (List ℕ)). v .frames ++ x) n ∙ append-nil (v .frames), u .bytes ∙ ap flatten n)
+
+  pub not-live : {os : List (List ℕ)} {bs : List ℕ} {s : State} {r : List ℕ} → Live os bs s r → Starting rec m bs → ⊥
+  not-live {os = os} v w =
+      let e : os ≡ own (w .before ++ w .last ∷ []) = sym (v .owned) ∙ ap own (sym (only-frames v (ends-whole w) .0)) in
       not-yet rec udi m (v .doing) (shape-of w os e) (record { enough = w .enough; digest = w .allowed })
 
   -- ---- a gathering
 
   pub data AfterGather (os : List (List ℕ)) (bs r : List ℕ) (o : Gathering) : Type 0 where
-    unfinished : o .report ≡ continues → Live os bs (o .state) r → AfterGather os bs r o
+    unfinished : o .report ≡ continues → Live os bs (o .state) r → (EndsWhole bs → ⊥) → AfterGather os bs r o
     complete : o .report ≡ whole → (f : List ℕ) → Full os f bs (o .state) r → AfterGather os bs r o
-    bad-header : o .report ≡ stopped 22 → o .state ≡ ended phase.Stopped m → ((rest : List ℕ) → Starting rec m (bs ++ rest) → ⊥) → AfterGather os bs r o
+    bad-header : o .report ≡ stopped 22 → o .state ≡ ended phase.Stopped m → ((rest : List ℕ) → EndsWhole (bs ++ rest) → ⊥) → AfterGather os bs r o
+
+  -- it answers whole exactly when the bytes end in a whole frame
+  pub whole-exactly : {os : List (List ℕ)} {bs r : List ℕ} {o : Gathering} → AfterGather os bs r o → (o .report ≡ whole) ↔ EndsWhole bs
+  whole-exactly (unfinished e v n) = (λ q. impossible cc, λ w. absurd (n w))
+  whole-exactly (complete e f v) = (
+    λ q. record { before = v .frames; last = f; all-good = v .all-good; nothing-left = v .whole; last-own = v .last-own },
+    λ w. e,
+  )
+  whole-exactly (bad-header e q z) = (λ p. impossible cc, λ w. absurd (z [] (subst EndsWhole (sym (append-nil _)) w)))
 
   module _ (os : List (List ℕ)) (bs : List ℕ) (s : State) (r : List ℕ) (v : Live os bs s r) (b : ℕ) where
     abbrev byte-in : List ℕ
@@ -137,8 +159,8 @@ module _ (rec udi : List ℕ) (m : ℕ) where
         let u = further (bs ++ b ∷ []) rest (v .frames) (b ∷ []) (v .all-good) (longer ∙ ap (λ (y : List ℕ). flatten (v .frames) ++ (y ++ b ∷ [])) p) w in
         no-bad b rest (u .rest) e (u .all-good) (u .bytes)))
     gathered-after x (at-part p q) =
-        rw (q, is-part byte-in p) (unfinished refl
-        (record {
+        let u : Live os (bs ++ b ∷ []) (at rec udi m (holding byte-in) (v .progress)) r =
+        record {
           frames = v .frames;
           part = byte-in;
           all-good = v .all-good;
@@ -148,10 +170,14 @@ module _ (rec udi : List ℕ) (m : ℕ) where
           progress = v .progress;
           state = refl;
           doing = v .doing;
-        }))
+        } in
+        rw (q, is-part byte-in p) (unfinished refl u (λ w.
+        let n : length byte-in ≡ 0 = ap length (only-frames u w .1) in
+        let l = length-snoc (v .part) b in
+        omega arith))
     gathered-after x (at-passed g n q) =
-        rw (q, is-part [] tt) (unfinished refl
-        (record {
+        let u : Live os (bs ++ b ∷ []) (at rec udi m idle (v .progress)) r =
+        record {
           frames = v .frames ++ byte-in ∷ [];
           part = [];
           all-good = all-good g;
@@ -161,7 +187,9 @@ module _ (rec udi : List ℕ) (m : ℕ) where
           progress = v .progress;
           state = refl;
           doing = v .doing;
-        }))
+        } in
+        rw (q, is-part [] tt) (unfinished refl u (λ w.
+        never (sym (w .last-own) ∙ ap forFirmware (last-same (w .before) (v .frames) (w .last) byte-in (only-frames u w .0)) ∙ n)))
     gathered-after x (at-whole g o q) =
         rw (q, is-whole byte-in g o) (complete refl byte-in
         (record {
@@ -199,7 +227,7 @@ module _ (rec udi : List ℕ) (m : ℕ) where
     -- the frames after these, when the bytes go on as those of a start
     module _ (rest : List ℕ) (w : Starting rec m (bs ++ rest)) where
       abbrev on : Further (v .frames ++ f ∷ []) (w .before ++ w .last ∷ []) rest
-      on = further bs rest (v .frames ++ f ∷ []) [] (v .all-good) whole-nil w
+      on = further bs rest (v .frames ++ f ∷ []) [] (v .all-good) whole-nil (ends-whole w)
 
       own-further : (os ++ f ∷ []) ++ own (on .rest) ≡ own (w .before ++ w .last ∷ [])
       own-further =

@@ -35,7 +35,7 @@ use Rattle.session.specs.Client.{actings, frame, framesTo, frames, progr
 use Rattle.session.proofs.Acting.{Leaves, ReplyTo, to-query, to-load, to-block, Replies}
 use Rattle.session.proofs.Strings.{digest-length}
 use Rattle.session.proofs.Proved.{one-reading, one-last, first-live, begins, gives, session, sent-accepted, all-acted}
-use Rattle.session.proofs.Calls.{Live, not-live, AfterGather, unfinished, complete, bad-header, AfterAct, goes-on, has-started, has-stopped}
+use Rattle.session.proofs.Calls.{ends-whole, Live, not-live, AfterGather, unfinished, complete, bad-header, AfterAct, goes-on, has-started, has-stopped}
 use Rattle.session.proofs.Entries.{lastFrom, last-from, number-zero, nothing-started}
 use Rattle.session.proofs.Walk.{Stands, is-live, is-full, gathering, acting-on}
 use Rattle.session.proofs.ClientFrames as made
@@ -183,9 +183,9 @@ module _ (prog : List ℕ) (id : ℕ) (secret : Secret) (makes : Made prog id se
         all = append-assoc bs (b ∷ []) (gatheredBytes later) ∙ e
 
         after : AfterGather rec udi m (framesTo prog id secret k) (bs ++ b ∷ []) r g → LoadTrace prog id secret k bs (gathers b g ∷ later)
-        after (unfinished q u) = gathers-on k bs b g later (ap isEnd q) (rest k false (bs ++ b ∷ []) (g .state) r (is-live u) one (x .1) t all)
+        after (unfinished q u n) = gathers-on k bs b g later (ap isEnd q) (rest k false (bs ++ b ∷ []) (g .state) r (is-live u) one (x .1) t all)
         after (complete q f u) = gathers-on k bs b g later (ap isEnd q) (rest k false (bs ++ b ∷ []) (g .state) r (is-full f u refl) one (x .1) t all)
-        after (bad-header q p z) = absurd (z (gatheredBytes later) (reading _ all))
+        after (bad-header q p z) = absurd (z (gatheredBytes later) (ends-whole (reading _ all)))
 
     -- the acting is not on the last frame, where the session goes on
     not-last : (k : ℕ) (bs rest f : List ℕ) → Next prog id secret makes (suc (blocksFor n)) k f bs rest → (Starting rec m bs → ⊥) → k < blocksFor n

@@ -4,7 +4,7 @@ use mathlib.Core.Path.{_≡_, refl, sym, ap, _∙_}
 use mathlib.Core.Bool.{Bool, true, false, cond}
 use mathlib.Core.List.{List, [], _∷_, _++_, append-assoc, append-nil, head-eq-of-cons-eq, tail-eq-of-cons-eq, flatten}
 use native.Mathlib.Omega.{arith}
-use lib.ListN.{length}
+use lib.ListN.{length, length-append}
 use Rattle.endian.proofs.Cases.{impossible}
 use Rattle.framing.specs.Header.{good}
 use Rattle.endian.specs.Lists.{All}
@@ -47,6 +47,12 @@ own-more fs f e = own-append fs (f ∷ []) ∙ ap (λ (x : Bool). own fs ++ cond
 
 pub own-same : (fs : List (List ℕ)) (f : List ℕ) → forFirmware f ≡ false → own (fs ++ f ∷ []) ≡ own fs
 own-same fs f e = own-append fs (f ∷ []) ∙ ap (λ (x : Bool). own fs ++ cond x (f ∷ []) []) e ∙ append-nil (own fs)
+
+pub last-same : (xs ys : List (List ℕ)) (a b : List ℕ) → xs ++ a ∷ [] ≡ ys ++ b ∷ [] → a ≡ b
+last-same [] [] a b e = head-eq-of-cons-eq e
+last-same [] (y ∷ ys) a b e = absurd (let l : 0 ≡ length (ys ++ b ∷ []) = ap length (tail-eq-of-cons-eq e) in let k = length-append ys (b ∷ []) in omega arith)
+last-same (x ∷ xs) [] a b e = absurd (let l : length (xs ++ a ∷ []) ≡ 0 = ap length (tail-eq-of-cons-eq e) in let k = length-append xs (a ∷ []) in omega arith)
+last-same (x ∷ xs) (y ∷ ys) a b e = last-same xs ys a b (tail-eq-of-cons-eq e)
 
 -- ---- the length of a good frame is its header's
 

@@ -4,9 +4,9 @@ use mathlib.Core.Path.{_≡_, refl, sym, ap, _∙_, subst}
 use mathlib.Core.Logic.{_⊎_, _↔_}
 use mathlib.Core.Bool.{Bool, true, false, cond, or-false}
 use mathlib.Core.Option.{none, some}
-use mathlib.Core.List.{List, [], _∷_, _++_, append-nil, tail-eq-of-cons-eq, head-eq-of-cons-eq, flatten}
+use mathlib.Core.List.{List, [], _∷_, _++_, append-nil, flatten}
 use native.Mathlib.Omega.{arith}
-use lib.ListN.{length, getD, replicate, length-append}
+use lib.ListN.{length, getD, replicate}
 use Rattle.rfc7693.specs.Rfc7693.{blake2s}
 use Rattle.endian.specs.Endian.{bytes}
 use Rattle.cdi.specs.Cdi.{cdiString}
@@ -20,22 +20,22 @@ use Rattle.client.specs.Frames.{secretOf}
 use Rattle.client.proofs.Proved as making
 use Rattle.client.specs.declared.Secret.{Secret}
 use Rattle.head.specs.State.{isWhole, live}
-use Rattle.head.specs.Answers.{refused, Outcome}
+use Rattle.head.specs.Answers.{refused, whole, Gathering, Outcome}
 use Rattle.head.specs.Begin.{waiting, beginning}
 use Rattle.endian.proofs.Words.{bytes-length}
 use Rattle.head.proofs.Proved.{head-theorems}
 use Rattle.endian.specs.Lists.{Words}
 use Rattle.session.specs.Reading.{own, digestOf, Allowed, chained, measuredId, Starting}
-use Rattle.session.specs.Session.{Loan, Call, Entry, acts, callOf, reportIn, Among, log, isAccepted, accepted, gatheredBytes, Session, allOf, acceptedOf, isEnd, hasEnded, lastIs, isActing, completes, frameIsWhole, refusalIn}
+use Rattle.session.specs.Session.{Loan, Call, Entry, gathers, acts, callOf, reportIn, Among, log, isAccepted, accepted, gatheredBytes, Session, allOf, acceptedOf, isEnd, hasEnded, lastIs, isActing, completes, frameIsWhole, refusalIn}
 use Rattle.session.specs.Client.{frames, Made}
-use Rattle.session.specs.Boot.{StartedAt, Started, Reads, ActedOn, used, Start, stringAt, Gives, Same, StartOf, VerifiedBoot}
-use Rattle.session.proofs.Frames.{reads-on, no-frames}
+use Rattle.session.specs.Boot.{StartedAt, Started, Reads, ActedOn, used, Start, stringAt, Gives, Same, StartOf, EndsWhole, VerifiedBoot}
+use Rattle.session.proofs.Frames.{last-same, reads-on, no-frames}
 use Rattle.session.proofs.Shapes.{one-shape}
 use Rattle.session.proofs.Acting.{is-waiting, Leaves}
 use Rattle.session.proofs.Calls.{Live}
 use Rattle.session.proofs.Gathering.{is-part}
 use Rattle.session.proofs.Entries.{lastFrom, last-from}
-use Rattle.session.proofs.Walk.{is-live, StartRead, Walk, walk}
+use Rattle.session.proofs.Walk.{Wholes, wholes-at, is-live, StartRead, Walk, walk}
 use Rattle.session.proofs.Begins.{Fresh, fresh, Runs, table-from}
 use Rattle.session.proofs.Starts.{whole-before, nothing-after}
 use Rattle.session.proofs.ClientFrames as made
@@ -44,12 +44,6 @@ use Rattle.session.proofs.Strings.{same-words, digest-length, id-length
 use Rattle.head.specs.declared.State.{State}
 
 -- ---- one reading
-
-last-same : (xs ys : List (List ℕ)) (a b : List ℕ) → xs ++ a ∷ [] ≡ ys ++ b ∷ [] → a ≡ b
-last-same [] [] a b e = head-eq-of-cons-eq e
-last-same [] (y ∷ ys) a b e = absurd (let l : 0 ≡ length (ys ++ b ∷ []) = ap length (tail-eq-of-cons-eq e) in let k = length-append ys (b ∷ []) in omega arith)
-last-same (x ∷ xs) [] a b e = absurd (let l : length (xs ++ a ∷ []) ≡ 0 = ap length (tail-eq-of-cons-eq e) in let k = length-append xs (a ∷ []) in omega arith)
-last-same (x ∷ xs) (y ∷ ys) a b e = last-same xs ys a b (tail-eq-of-cons-eq e)
 
 module _ (rec : List ℕ) (m : ℕ) (received : List ℕ) (w w′ : Starting rec m received) where
   same-frames : w .before ++ w .last ∷ [] ≡ w′ .before ++ w′ .last ∷ []
@@ -112,6 +106,9 @@ module _ (S : Session) where
   table e i k =
       rw (← or-false (hasEnded (i .before)), last-from completes (accepted (i .before)))
       (table-from (S .ramLen) (S .calls) _ false false (first-runs (S .rec) (S .udi) (S .ramLen) begins) (i .before) (i .after) e (i .place) k)
+
+  whole-when : (b : ℕ) (g : Gathering) (i : Among (gathers b g) (acceptedOf S)) → (g .report ≡ whole) ↔ EndsWhole (gatheredBytes (i .before) ++ b ∷ [])
+  whole-when b g i = wholes-at [] (i .before) (i .after) b g (subst (Wholes []) (i .place) (walked .wholes))
 
   module _ (t : Start S) where
     leaves : Leaves (S .rec) (S .udi) (S .ramLen) (t .reading .load) (t .reading .blocks) (getD (t .reading .last) 0 0) (t .loan .room) (t .loan .uds) (t .out)
@@ -254,5 +251,6 @@ verified-boot =
           (o .0, o .1, o .2, λ uds. one-string (S .rec) uds (w .load) (w′ .load) (w .blocks) (w′ .blocks) (o .1) (o .2));
       injective = injective;
       table = table;
+      whole-when = whole-when;
       exists = exists;
     }

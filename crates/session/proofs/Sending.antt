@@ -14,7 +14,7 @@ use Rattle.head.specs.Gather.{gathered}
 use Rattle.head.specs.Act.{acted}
 use Rattle.session.specs.Reading.{Starting}
 use Rattle.session.specs.Session.{Loan, Call, gather, act, Entry, gathers, acts, Among, log, isAccepted, accepted, gatheredBytes, OneRam, isActing}
-use Rattle.session.proofs.Calls.{Live, not-live, AfterGather, unfinished, complete, bad-header, after-gather, AfterAct, goes-on, has-started, has-stopped, after-act}
+use Rattle.session.proofs.Calls.{ends-whole, Live, not-live, AfterGather, unfinished, complete, bad-header, after-gather, AfterAct, goes-on, has-started, has-stopped, after-act}
 use Rattle.session.proofs.Entries.{among-cases, among-none, lastFrom, numberOf, call-taken}
 use Rattle.session.proofs.Begins.{Runs, number-is, overAfter, fullAfter, next-runs}
 use Rattle.head.specs.declared.State.{State}
@@ -99,7 +99,7 @@ module _ (uds : List ℕ) (typed : Words uds) where
       gathered-first : (os : List (List ℕ)) (t : Bool) (g : Gathering) → isAccepted (g .report) ≡ true
           → Runs m (g .state) (overAfter false (gathers b g)) (fullAfter false (gathers b g)) → AfterGather rec udi m os (before ++ b ∷ []) r g
           → AllAccepted (b ∷ bs) r t (from g (reportsWhole (g .report)))
-      gathered-first os t g e x (unfinished q u) =
+      gathered-first os t g e x (unfinished q u n) =
           subst (λ (y : Bool). AllAccepted (b ∷ bs) r t (from g y)) (sym (ap reportsWhole q))
           (gather-first bs r t b g _ e (rest os (before ++ b ∷ []) (g .state) r false u (rw q at x) fits w))
       gathered-first os t g e x (complete q f u) =
@@ -110,7 +110,7 @@ module _ (uds : List ℕ) (typed : Words uds) where
           (gather-first bs r t b g _ e
           (acted-first bs (before ++ b ∷ []) r w rest os f false (acting (g .state) r) (call-taken (g .state) (act (lending r)) z)
           (next-runs m (g .state) false true (act (lending r)) y) (after-act rec udi m os f (before ++ b ∷ []) (g .state) (lending r) u z)))
-      gathered-first os t g e x (bad-header q p z) = absurd (z bs w)
+      gathered-first os t g e x (bad-header q p z) = absurd (z bs (ends-whole w))
 
     pub all-accepted : (bs : List ℕ) → Rest bs
     all-accepted [] os before s r t v g n w = absurd (not-live rec udi m v (subst (Starting rec m) (append-nil before) w))

@@ -1,21 +1,22 @@
 -- The list of calls, from a head that goes on: where an acting answers a start, the accepted bytes read as those of a start and the last accepted call
--- is an acting, and the other way round.
+-- is an acting, and the other way round; and a gathering answers whole exactly when the bytes end in a whole frame.
 use Prim.Native.Nat.{ℕ}
 use mathlib.Core.Path.{_≡_, refl, sym, ap, _∙_, subst}
-use mathlib.Core.Logic.{_⊎_, inl, inr}
+use mathlib.Core.Logic.{_↔_, _⊎_, inl, inr}
 use mathlib.Core.Bool.{Bool, true, false, cond}
 use mathlib.Core.List.{List, [], _∷_, _++_, append-assoc, append-nil}
 use lib.ListN.{length, getD}
 use Rattle.endian.proofs.Cases.{impossible}
-use Rattle.head.specs.Answers.{continues, stopped, started, Gathering, Outcome}
+use Rattle.head.specs.Answers.{continues, whole, stopped, started, Gathering, Outcome}
 use Rattle.head.specs.Gather.{gatherRefusal, gathered}
 use Rattle.head.specs.Act.{acted}
 use Rattle.head.proofs.Ranges.{never}
 use Rattle.head.proofs.Admitted.{gather-admitted, act-admitted}
 use Rattle.session.specs.Reading.{Starting}
 use Rattle.session.specs.Session.{Loan, Call, gather, act, Entry, gathers, acts, entryOf, reportIn, stateAfter, Among, log, isAccepted, accepted, gatheredBytes, OneRam, isActing}
+use Rattle.session.specs.Boot.{EndsWhole}
 use Rattle.session.proofs.Acting.{Leaves}
-use Rattle.session.proofs.Calls.{Live, Full, not-whole, now-whole, not-live, AfterGather, unfinished, complete, bad-header, after-gather, AfterAct, goes-on, has-started, has-stopped, after-act}
+use Rattle.session.proofs.Calls.{ends-whole, Live, Full, not-whole, now-whole, not-live, AfterGather, unfinished, complete, bad-header, whole-exactly, after-gather, AfterAct, goes-on, has-started, has-stopped, after-act}
 use Rattle.session.proofs.Entries.{among-first, among-later, among-cases, among-none, lastFrom, numberOf, number-zero, state-kept, nothing-started, nothing-stopped}
 use Rattle.head.specs.declared.State.{State}
 
@@ -24,6 +25,23 @@ pub record Answered (o : Outcome) : Type 0 where
   pub address : ℕ
   pub size : ℕ
   pub answers : o .report ≡ started address size
+
+-- this gathering answers whole exactly when these bytes end in a whole frame
+abbrev WholeAt : List ℕ → Gathering → Type 0
+WholeAt bs g = (g .report ≡ whole) ↔ EndsWhole bs
+
+-- and each of these does by the bytes up to its own, where bs came before them
+abbrev pub Wholes : List ℕ → List Entry → Type 0
+Wholes bs [] = Unit {0}
+Wholes bs (gathers b g ∷ es) = WholeAt (bs ++ b ∷ []) g × Wholes (bs ++ b ∷ []) es
+Wholes bs (acts l o ∷ es) = Wholes bs es
+
+pub wholes-at : (bs : List ℕ) (before after : List Entry) (b : ℕ) (g : Gathering) → Wholes bs (before ++ gathers b g ∷ after)
+    → WholeAt ((bs ++ gatheredBytes before) ++ b ∷ []) g
+wholes-at bs [] after b g w = subst (λ (x : List ℕ). WholeAt (x ++ b ∷ []) g) (sym (append-nil bs)) (w .0)
+wholes-at bs (gathers c o ∷ before) after b g w =
+    subst (λ (x : List ℕ). WholeAt (x ++ b ∷ []) g) (append-assoc bs (c ∷ []) (gatheredBytes before)) (wholes-at (bs ++ c ∷ []) before after b g (w .1))
+wholes-at bs (acts l o ∷ before) after b g w = wholes-at bs before after b g w
 
 module _ (rec udi : List ℕ) (m : ℕ) where
   -- what the accepted calls amount to; the last of them is an acting or not
@@ -54,9 +72,10 @@ module _ (rec udi : List ℕ) (m : ℕ) where
         → StartRead (bs ++ gatheredBytes es) l o × (lastFrom isActing acting es ≡ true)
     pub whenever : Starting rec m (bs ++ gatheredBytes es) → lastFrom isActing acting es ≡ true
         → (l : Loan) × (o : Outcome) × Among (acts l o) es × Answered o
+    pub wholes : Wholes bs es
 
   no-more : (os : List (List ℕ)) (acting : Bool) (bs : List ℕ) (s : State) (r : List ℕ) → Stands os bs s r acting → Walk acting bs []
-  no-more os acting bs s r v = record { only = λ l o i a. absurd (among-none (acts l o) i); whenever = λ d e. absurd (none v d e) }
+  no-more os acting bs s r v = record { only = λ l o i a. absurd (among-none (acts l o) i); whenever = λ d e. absurd (none v d e); wholes = tt }
     where
       none : Stands os bs s r acting → Starting rec m (bs ++ []) → acting ≡ true → ⊥
       none (is-live v) d e = not-live rec udi m v (subst (Starting rec m) (append-nil bs) d)
@@ -64,14 +83,15 @@ module _ (rec udi : List ℕ) (m : ℕ) where
 
   -- ---- a call, and what the calls after it lead to
 
-  gather-first : (acting : Bool) (bs : List ℕ) (b : ℕ) (g : Gathering) (es : List Entry) → Walk false (bs ++ b ∷ []) es
+  gather-first : (acting : Bool) (bs : List ℕ) (b : ℕ) (g : Gathering) (es : List Entry) → WholeAt (bs ++ b ∷ []) g → Walk false (bs ++ b ∷ []) es
       → Walk acting bs (gathers b g ∷ es)
-  gather-first acting bs b g es w =
+  gather-first acting bs b g es h w =
       record {
         only = λ l o i a. only l o (among-cases (gathers b g) (acts l o) es i) a;
         whenever = λ d e.
             let t = w .whenever (subst (Starting rec m) (sym p) d) e in
             (t .0, t .1, among-later (gathers b g) (acts (t .0) (t .1)) es (t .2), t .3);
+        wholes = (h, w .wholes);
       }
     where
       p : (bs ++ b ∷ []) ++ gatheredBytes es ≡ bs ++ b ∷ gatheredBytes es
@@ -88,6 +108,7 @@ module _ (rec udi : List ℕ) (m : ℕ) where
       record {
         only = λ k x i a. only k x (among-cases (acts l o) (acts k x) es i) a;
         whenever = λ d e. let t = w .whenever d e in (t .0, t .1, among-later (acts l o) (acts (t .0) (t .1)) es (t .2), t .3);
+        wholes = w .wholes;
       }
     where
       only : (k : Loan) (x : Outcome) → (acts k x ≡ acts l o) ⊎ Among (acts k x) es → Answered x
@@ -102,6 +123,7 @@ module _ (rec udi : List ℕ) (m : ℕ) where
       record {
         only = λ k x i a. only k x (among-cases (acts l o) (acts k x) [] i);
         whenever = λ d e. (l, o, among-first (acts l o) [], record { address = _; size = _; answers = b .leaves .report });
+        wholes = tt;
       }
     where
       only : (k : Loan) (x : Outcome) → (acts k x ≡ acts l o) ⊎ Among (acts k x) [] → StartRead (bs ++ []) k x × (_≡_ {A = Bool} true true)
@@ -109,9 +131,9 @@ module _ (rec udi : List ℕ) (m : ℕ) where
       only k x (inr j) = absurd (among-none (acts k x) j)
 
   stop-last : (acting : Bool) (bs : List ℕ) (e : Entry) (k : ℕ) → reportIn e ≡ stopped k → (Starting rec m (bs ++ gatheredBytes (e ∷ [])) → ⊥)
-      → Walk acting bs (e ∷ [])
-  stop-last acting bs e k r z =
-      record { only = λ l o i a. only l o (among-cases e (acts l o) [] i) a; whenever = λ d q. absurd (z d) }
+      → Wholes bs (e ∷ []) → Walk acting bs (e ∷ [])
+  stop-last acting bs e k r z h =
+      record { only = λ l o i a. only l o (among-cases e (acts l o) [] i) a; whenever = λ d q. absurd (z d); wholes = h }
     where
       only : (l : Loan) (o : Outcome) → (acts l o ≡ e) ⊎ Among (acts l o) [] → Answered o
           → StartRead (bs ++ gatheredBytes (e ∷ [])) l o × (isActing e ≡ true)
@@ -144,14 +166,17 @@ module _ (rec udi : List ℕ) (m : ℕ) where
 
   gather-next : (b : ℕ) (cs : List Call) → Rest cs → Rest (gather b ∷ cs)
   gather-next b cs rest os acting bs s r v =
-      by-accepted (gather b) cs rest os acting bs s r v (λ t. after (gathered s b) (gathering os bs s r acting b v (number-zero s (gather b) t)))
+      by-accepted (gather b) cs rest os acting bs s r v (λ t.
+      let a = gathering os bs s r acting b v (number-zero s (gather b) t) in
+      after (gathered s b) a (whole-exactly rec udi m a))
     where
-      after : (g : Gathering) → AfterGather rec udi m os (bs ++ b ∷ []) r g → OneRam r (accepted (log (g .state) cs))
+      after : (g : Gathering) → AfterGather rec udi m os (bs ++ b ∷ []) r g → WholeAt (bs ++ b ∷ []) g → OneRam r (accepted (log (g .state) cs))
           → Walk acting bs (gathers b g ∷ accepted (log (g .state) cs))
-      after g (unfinished e u) one = gather-first acting bs b g _ (rest os false (bs ++ b ∷ []) (g .state) r (is-live u) one)
-      after g (complete e f u) one = gather-first acting bs b g _ (rest os false (bs ++ b ∷ []) (g .state) r (is-full f u refl) one)
-      after g (bad-header e q z) one =
-          rw (nothing-stopped (g .state) m cs q) (stop-last acting bs (gathers b g) 22 e (λ d. z [] (subst (Starting rec m) (sym (append-nil _)) d)))
+      after g (unfinished e u n) h one = gather-first acting bs b g _ h (rest os false (bs ++ b ∷ []) (g .state) r (is-live u) one)
+      after g (complete e f u) h one = gather-first acting bs b g _ h (rest os false (bs ++ b ∷ []) (g .state) r (is-full f u refl) one)
+      after g (bad-header e q z) h one =
+          let no-end : EndsWhole (bs ++ b ∷ []) → ⊥ = λ w. let p : stopped 22 ≡ whole = sym e ∙ h .1 w in impossible cc in
+          rw (nothing-stopped (g .state) m cs q) (stop-last acting bs (gathers b g) 22 e (λ d. no-end (ends-whole d)) (h, tt))
 
   act-next : (l : Loan) (cs : List Call) → Rest cs → Rest (act l ∷ cs)
   act-next l cs rest os acting bs s r v =
@@ -165,7 +190,7 @@ module _ (rec udi : List ℕ) (m : ℕ) where
       after o f (goes-on e u n x) w one = act-first acting bs l o _ e (rest (os ++ f ∷ []) true bs (o .state) (o .ram) (is-live u) one)
       after o f (has-started d x z) w one =
           rw (nothing-started (o .state) m cs (x .state)) (start-last acting bs l o (record { reading = d; leaves = x; eight = w }))
-      after o f (has-stopped k e q z) w one = rw (nothing-stopped (o .state) m cs q) (stop-last acting bs (acts l o) k e (z []))
+      after o f (has-stopped k e q z) w one = rw (nothing-stopped (o .state) m cs q) (stop-last acting bs (acts l o) k e (z []) tt)
 
   pub walk : (cs : List Call) → Rest cs
   walk [] = λ os acting bs s r v one. no-more os acting bs s r v

@@ -1,11 +1,12 @@
 -- Verified boot (document 01: demand 3): when a session has started, what that start gives, what two starts with one string share, when a call
--- is refused, and that there are starts. docs/PROMISES.md reads it beside document 01. The proof is `verified-boot` in proofs/Proved.antt.
+-- is refused, when a frame is whole, and that there are starts. docs/PROMISES.md reads it beside document 01. The proof is `verified-boot` in
+-- proofs/Proved.antt.
 use Prim.Native.Nat.{ℕ, _≤_}
 use mathlib.Core.Path.{_≡_}
 use mathlib.Core.Logic.{_↔_, _⊎_}
 use mathlib.Core.Bool.{Bool, true, cond}
 use mathlib.Core.Option.{Option, none, some}
-use mathlib.Core.List.{List, []}
+use mathlib.Core.List.{List, [], _∷_, _++_, flatten}
 use lib.ListN.{length, getD, take}
 use Rattle.rfc7693.specs.Rfc7693.{blake2s}
 use Rattle.endian.specs.Endian.{bytes}
@@ -13,11 +14,11 @@ use Rattle.cdi.specs.Cdi.{measurementOf, cdiString}
 use Rattle.protocol.specs.Commands.{loadIn, usesUss}
 use Rattle.protocol.specs.Replies.{sent, digestReply, putIn}
 use Rattle.record.specs.Record.{typeField, numberIn}
-use Rattle.endian.specs.Lists.{zeros, Words}
-use Rattle.head.specs.Answers.{refused, started, Outcome}
+use Rattle.endian.specs.Lists.{zeros, All, Words}
+use Rattle.head.specs.Answers.{refused, whole, started, Gathering, Outcome}
 use Rattle.head.specs.Begin.{beginning}
-use Rattle.session.specs.Reading.{sizeOf, programOf, digestOf, Allowed, chained, measuredId, Starting}
-use Rattle.session.specs.Session.{Loan, Entry, acts, callOf, reportIn, Among, isAccepted, gatheredBytes, Session, allOf, acceptedOf, hasEnded, lastIs, isActing, completes, frameIsWhole, refusalIn}
+use Rattle.session.specs.Reading.{Good, forFirmware, sizeOf, programOf, digestOf, Allowed, chained, measuredId, Starting}
+use Rattle.session.specs.Session.{Loan, Entry, gathers, acts, callOf, reportIn, Among, isAccepted, gatheredBytes, Session, allOf, acceptedOf, hasEnded, lastIs, isActing, completes, frameIsWhole, refusalIn}
 
 -- an accepted acting of the session answered a start
 pub record StartedAt (S : Session) (l : Loan) (o : Outcome) : Type 0 where
@@ -111,6 +112,14 @@ pub record StartOf (rec udi ram uds prog : List ℕ) (secret : Option (List ℕ)
   -- no call of it is refused
   pub none-refused : acceptedOf session ≡ allOf session
 
+-- the bytes are whole good frames one after the other, and the last has endpoint 2
+pub record EndsWhole (received : List ℕ) : Type 0 where
+  pub before : List (List ℕ)
+  pub last : List ℕ
+  pub all-good : All Good (before ++ last ∷ [])
+  pub nothing-left : received ≡ flatten (before ++ last ∷ [])
+  pub last-own : forFirmware last ≡ true
+
 pub record VerifiedBoot : Type 0 where
   -- a head has started exactly when its accepted bytes read as those of a start and the last block was acted on
   pub exactly : (S : Session) → Started S ↔ (Reads S × ActedOn S)
@@ -123,6 +132,10 @@ pub record VerifiedBoot : Type 0 where
   -- every call of the list answers a number of refusal exactly when the table says so
   pub table : (S : Session) (e : Entry) (i : Among e (allOf S)) (k : ℕ)
       → (reportIn e ≡ refused k) ↔ ((k ≡ refusalIn (hasEnded (i .before)) (frameIsWhole (i .before)) (S .ramLen) (callOf e)) × (k ≡ 0 → ⊥))
+  -- an accepted gathering answers whole exactly when the accepted bytes, its own the last of them, end in a whole frame with endpoint 2; one for
+  -- another endpoint never is whole
+  pub whole-when : (S : Session) (b : ℕ) (g : Gathering) (i : Among (gathers b g) (acceptedOf S))
+      → (g .report ≡ whole) ↔ EndsWhole (gatheredBytes (i .before) ++ b ∷ [])
   -- every program of 1 byte to the RAM's length starts, if the record allows it, with any user secret or none, whatever RAM and UDS hold
   pub exists : (rec udi ram uds prog : List ℕ) (flag : Bool) (uss : List ℕ)
       → isAccepted (beginning rec udi (length ram) .report) ≡ true → (numberIn typeField rec ≡ 4) ⊎ (numberIn typeField rec ≡ 5)
