@@ -306,5 +306,6 @@ client-load =
             refl,
             refl,
             refl,
+            f .same-uds,
           );
     }

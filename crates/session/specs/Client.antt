@@ -121,8 +121,9 @@ module _ (program : List ℕ) (id : ℕ) (secret : Secret) where
 pub record ClientLoad : Type 0 where
   pub reads : (program : List ℕ) (id : ℕ) (secret : Secret) → Made program id secret → ReadAs program id secret
   pub loads : (program : List ℕ) (id : ℕ) (secret : Secret) → Made program id secret → (S : Session) → ReceivesFrames program id secret S → Loads program id secret S
-  -- there is such a session for every record, UDI, RAM and UDS that allow it
+  -- there is such a session for every record, UDI, RAM and UDS that allow it; each acting of it is lent this UDS
   pub exists : (program : List ℕ) (id : ℕ) (secret : Secret) → Made program id secret → (rec udi ram uds : List ℕ)
       → isAccepted (beginning rec udi (length ram) .report) ≡ true → (numberIn typeField rec ≡ 4) ⊎ (numberIn typeField rec ≡ 5)
       → length uds ≡ 8 → Words uds → length program ≤ length ram → Allowed rec (blake2s [] program 32)
       → (S : Session) × ReceivesFrames program id secret S × (S .rec ≡ rec) × (S .udi ≡ udi) × (S .ram ≡ ram)
+      × ((l : Loan) (o : Outcome) → Among (acts l o) (allOf S) → l .uds ≡ uds)
