@@ -113,7 +113,7 @@ module _ (m : ℕ) where
       same : (gathered s b .report ≡ continues) ⊎ (gathered s b .report ≡ whole) → (t : Bool) → isWhole (gathered s b .state .incoming) ≡ t
           → Runs (gathered s b .state) over t
       same e t w =
-          let q = l .goes-on e .0 in
+          let q = l .goes-on e in
           record {
             range = l .stays (v .range);
             ram = ap (λ (t : State). t .config .«ram_len») q ∙ v .ram;
@@ -145,9 +145,9 @@ module _ (m : ℕ) where
           let g = l .goes-on e in
           rw e (record {
             range = l .stays (v .range);
-            ram = ap (λ (c : Config). c .«ram_len») (g .1) ∙ v .ram;
+            ram = ap (λ (c : Config). c .«ram_len») (g .2) ∙ v .ram;
             goes = l .lives e ∙ sym (live-before (ap isAccepted e)) ∙ v .goes;
-            holds = ap isWhole (g .0) ∙ is-part [] tt;
+            holds = ap isWhole (g .1) ∙ is-part [] tt;
           })
       go whole e = absurd (l .no-whole e)
       go (stopped k) e = rw e (ended-runs _ phase.Stopped refl (l .stays (v .range)) (l .stops k e .2 ∙ ap (ended phase.Stopped) (v .ram)))
