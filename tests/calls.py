@@ -31,7 +31,6 @@ def answer_bytes(answer):
 class Calls:
     def __init__(self):
         self.data = []
-        self.verified = 0  # random starts in which a digest was required
         self.wanted = []  # for each call: what it is, and what must be written, as pairs of a name and bytes
 
     def add(self, what, kind, call, *fields):
@@ -90,10 +89,10 @@ class Calls:
         return b"".join(want for _, fields in self.wanted for _, want in fields)
 
     def answers(self):
-        """Each answer as a letter and its number; a start without its size."""
-        for _, ((name, want), *_) in self.wanted:
+        """For each call its number, and its answer as a letter and, for refusals and stops, a number."""
+        for call, (_, ((_, want), *_)) in zip(self.data, self.wanted):
             letter, number = chr(want[0]), int.from_bytes(want[1:5], "little")
-            yield "S" if letter == "S" else f"{letter} {number}"
+            yield call[0], f"{letter} {number}" if letter in "XF" else letter
 
     def play(self):
         """What is wrong, or nothing."""
