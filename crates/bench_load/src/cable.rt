@@ -1,15 +1,15 @@
 // The cable: a head with 131,072 bytes of RAM receives whole loads.
 use super::frames;
+use loader::Acted;
 use loader::Answer;
-use loader::Received;
 use loader::State;
 
 // What the loads came to.
 pub struct Loaded {
     // How many bytes were received.
     pub received: u64,
-    // The answer to the last one.
-    pub last: Received,
+    // What acting on the last frame gave.
+    pub last: Acted,
 }
 
 // Loads a program of this size so many times.
@@ -34,7 +34,7 @@ fn repeat(bytes: &[u8], times: u32, ram: &mut [u8]) -> Loaded {
 }
 
 // One session, from begin on. It starts with the last byte or not at all, so that a start says that every byte was accepted.
-fn session(bytes: &[u8], ram: &mut [u8]) -> Received {
+fn session(bytes: &[u8], ram: &mut [u8]) -> Acted {
     let mut room = [0u8; 129];
     let mut words = [0x13121110u32; 8];
     play(begun(), bytes, &mut room, ram, &mut words)
@@ -48,24 +48,39 @@ fn begun() -> State {
     b.state
 }
 
-// The answer before the first byte.
-fn going_on(state: State) -> Received {
-    Received {
+// Before the first frame.
+fn going_on(state: State) -> Acted {
+    Acted {
         answer: Answer::Continue,
         reply: 0,
-        state,
         cdi: [0; 32],
         digest: [0; 32],
+        state,
     }
 }
 
-fn play(s: State, bytes: &[u8], room: &mut [u8], ram: &mut [u8], words: &mut [u32]) -> Received {
+// The bytes are gathered, and each frame is acted on when it is whole.
+fn play(s: State, bytes: &[u8], room: &mut [u8], ram: &mut [u8], words: &mut [u32]) -> Acted {
     let mut last = going_on(s);
     let mut i: usize = 0;
     while i < bytes.len() {
-        let next = loader::receive(last.state, bytes[i], room, ram, words);
+        let next = hear(last, bytes[i], room, ram, words);
         last = next;
         i = i + 1;
     }
     last
+}
+
+// A byte is gathered, and a frame that is whole with it is acted on.
+fn hear(last: Acted, byte: u8, room: &mut [u8], ram: &mut [u8], words: &mut [u32]) -> Acted {
+    let g = loader::gather(last.state, byte);
+    let answer = g.answer;
+    match answer {
+        Answer::Whole => loader::act(g.state, room, ram, words),
+        _ => {
+            let mut next = last;
+            next.state = g.state;
+            next
+        }
+    }
 }
