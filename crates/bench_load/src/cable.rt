@@ -33,7 +33,7 @@ fn repeat(bytes: &[u8], times: u32, ram: &mut [u8]) -> Loaded {
     Loaded { received, last }
 }
 
-// One session, from begin on. It starts with the last byte or not at all, so that a start says that every byte was accepted.
+// One session, from begin on. It starts with the last frame or not at all, so that a start says that every byte was accepted.
 fn session(bytes: &[u8], ram: &mut [u8]) -> Acted {
     let mut room = [0u8; 129];
     let mut words = [0x13121110u32; 8];
@@ -53,34 +53,36 @@ fn going_on(state: State) -> Acted {
     Acted {
         answer: Answer::Continue,
         reply: 0,
+        state,
         cdi: [0; 32],
         digest: [0; 32],
-        state,
     }
 }
 
-// The bytes are gathered, and each frame is acted on when it is whole.
+fn is_whole(a: Answer) -> bool {
+    match a {
+        Answer::Whole => true,
+        _ => false,
+    }
+}
+
+// Gathers the bytes, and acts on each frame that is whole.
 fn play(s: State, bytes: &[u8], room: &mut [u8], ram: &mut [u8], words: &mut [u32]) -> Acted {
+    let mut state = s;
     let mut last = going_on(s);
     let mut i: usize = 0;
     while i < bytes.len() {
-        let next = hear(last, bytes[i], room, ram, words);
-        last = next;
+        let g = loader::gather(state, bytes[i]);
+        let answer = g.answer;
+        let gathered = g.state;
+        state = gathered;
+        if is_whole(answer) {
+            let next = loader::act(state, room, ram, words);
+            let acted = next.state;
+            state = acted;
+            last = next;
+        }
         i = i + 1;
     }
     last
-}
-
-// A byte is gathered, and a frame that is whole with it is acted on.
-fn hear(last: Acted, byte: u8, room: &mut [u8], ram: &mut [u8], words: &mut [u32]) -> Acted {
-    let g = loader::gather(last.state, byte);
-    let answer = g.answer;
-    match answer {
-        Answer::Whole => loader::act(g.state, room, ram, words),
-        _ => {
-            let mut next = last;
-            next.state = g.state;
-            next
-        }
-    }
 }
