@@ -246,15 +246,6 @@ def last_of_query(**changes):
 
 
 OUT_OF_RANGE = {
-    "gathered frame": [
-        last_block(0x10, 2),
-        last_block(0x11, 5),
-        last_block(0x12, 33),
-        last_block(0x13, 129),
-        last_block(0x93, 128),
-        last_block(0x17, 128),
-        last_block(0x13, 0),
-    ],
     # The last two are in range, but what is lent has another length.
     "RAM": [last_of_query(ram=0), last_of_query(ram=131073), last_of_query(ram=2**32 + RAM), last_of_query(ram=1), last_of_query(ram=131072)],
     "waiting": [last_of_query(size=1), last_of_query(block=1), last_of_query(uss_used=True), last_of_query(uss=bytes(31) + b"\1")],
@@ -267,6 +258,7 @@ OUT_OF_RANGE = {
         last_block(size=300, block=2**32 - 1),
     ],
 }
+
 
 def refusals(made):
     for name, heads in OUT_OF_RANGE.items():
@@ -290,14 +282,14 @@ def both(made, what, head):
 
 
 def borders(made):
-    """How much of a frame has come: whole is one more than the body's length, and for the firmware only."""
-    for header in [*range(0x60, 0x64), *range(0x68, 0x6C), *range(0x70, 0x74), *range(0x78, 0x7C), 0x17, 0x93]:
-        for got in [0, 1, Frame(header).length(), 254]:
+    """How much of a frame has come: at most its body's length, and for the firmware one byte more, with which it is whole."""
+    for header in [*range(0x00, 0x04), *range(0x08, 0x0C), *range(0x10, 0x14), *range(0x18, 0x1C), 0x17, 0x93]:
+        for got in [0, Frame(header).length(), Frame(header).length() + 1, 254]:
             both(made, f"header {header:02x}, {got} bytes", last_block(header, got))
 
 
 def loans(made):
-    """Every length of what is lent."""
+    """Every length of what is lent, to an acting that starts."""
     for name, most in [("room", calls.ROOM), ("ram", calls.RAM), ("words", calls.WORDS)]:
         for n in range(most + 1):
             Session(f"{name} {n}", made, last_block()).hear(0x01, **{name: n})
@@ -395,17 +387,19 @@ def random_data(rng, size):
     return data[: rng.randrange(len(data))] if rng.random() < 0.1 else data + b"\x10\x01"
 
 
-def play(rng, s, data):
+def in_any_order(rng, s, data):
     """Gatherings and actings as they come, whether or not it is their turn: a byte is offered until it is taken. Six calls follow the end."""
     gathers = rng.choice([0.6, 0.8, 0.95])
     at, after = 0, 0
-    while at < len(data) and after <= 6:
+    for _ in range(5 * len(data)):
         if rng.random() < gathers:
             s.gather(data[at])
             at += s.answer.kind != "X"
         else:
             s.act(**random_loans(rng, RAM))
         after += s.head.ended()
+        if at == len(data) or after > 6:
+            break
 
 
 def random_lists(made, seen):
@@ -415,7 +409,7 @@ def random_lists(made, seen):
         required = rng.choice([blake2s(PROGRAM[:size])] * 3 + [rng.randbytes(32)])
         record = struct.pack("<II32s216s", kind, mask, required, rng.randbytes(216))
         s = begun(made, f"list {k}", record, rng.randbytes(8), words=[rng.randrange(2**32) for _ in range(8)])
-        play(rng, s, random_data(rng, size))
+        in_any_order(rng, s, random_data(rng, size))
         seen["lists", s.head.phase] += 1
 
 
