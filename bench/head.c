@@ -1,5 +1,5 @@
 /*
- * The peer that `receive` is measured against: document 01's head as ordinary C, its state behind a pointer. It receives what
+ * The peer that `gather` and `act` are measured against: document 01's head as ordinary C, its state behind a pointer. It receives what
  * crates/bench_load sends to the proved head, and prints the same lines. Link it with reference.c.
  */
 #include <stdint.h>
@@ -11,7 +11,7 @@ void reference_blake2s(const uint8_t *msg, size_t n, uint8_t out[32]);
 #define RAM_LEN 131072
 
 enum phase { WAITING, LOADING, STARTED, STOPPED };
-enum { GOES_ON = 0, STARTS = 128 }; /* otherwise an answer is the number of a refusal or of a stop */
+enum { GOES_ON = 0, STARTS = 128, IS_WHOLE = 129 }; /* otherwise an answer is the number of a refusal or of a stop */
 
 struct head {
     size_t ram_len;
@@ -44,6 +44,16 @@ static unsigned length(uint8_t header)
     return lengths[header & 3];
 }
 
+static int for_firmware(uint8_t header)
+{
+    return (header >> 3 & 3) == 2;
+}
+
+static int whole(const struct head *h)
+{
+    return for_firmware(h->header) && h->got == length(h->header) + 1;
+}
+
 static uint32_t blocks_for(uint32_t size)
 {
     return size / 127 + (size % 127 != 0);
@@ -73,7 +83,7 @@ static int in_range(const struct head *h)
 {
     if (h->ram_len == 0 || h->ram_len > RAM_LEN)
         return 0;
-    if (h->got == 0 ? h->header != 0 : bad(h->header) || h->got > length(h->header))
+    if (h->got == 0 ? h->header != 0 : bad(h->header) || (h->got > length(h->header) && !whole(h)))
         return 0;
     if (h->phase == WAITING)
         return h->size == 0 && h->block == 0 && !h->uss_used && memcmp(h->uss, zeros, 32) == 0;
@@ -82,12 +92,23 @@ static int in_range(const struct head *h)
     return 1;
 }
 
-static int refusal(const struct head *h, size_t room_len, size_t ram_len, size_t words)
+static int gather_refusal(const struct head *h)
 {
     if (!in_range(h))
         return 1;
     if (h->phase == STARTED || h->phase == STOPPED)
         return 2;
+    return whole(h) ? 47 : 0;
+}
+
+static int act_refusal(const struct head *h, size_t room_len, size_t ram_len, size_t words)
+{
+    if (!in_range(h))
+        return 1;
+    if (h->phase == STARTED || h->phase == STOPPED)
+        return 2;
+    if (!whole(h))
+        return 47;
     if (room_len < 129)
         return 3;
     if (ram_len != h->ram_len)
@@ -171,7 +192,7 @@ static int block(struct head *h, uint8_t *room, uint8_t *ram, uint32_t *uds)
     return start(h, uds);
 }
 
-static int act(struct head *h, uint8_t *room, uint8_t *ram, uint32_t *uds)
+static int perform(struct head *h, uint8_t *room, uint8_t *ram, uint32_t *uds)
 {
     static const uint8_t name[12] = {'t', 'k', '1', ' ', 'm', 'k', 'd', 'f', 1};
     unsigned len = length(h->header);
@@ -192,14 +213,19 @@ static int act(struct head *h, uint8_t *room, uint8_t *ram, uint32_t *uds)
     }
 }
 
-static int receive(struct head *h, uint8_t byte, uint8_t *room, size_t room_len, uint8_t *ram, size_t ram_len,
-                   uint32_t *uds, size_t words)
+static void clear_frame(struct head *h)
 {
-    int answer = refusal(h, room_len, ram_len, words);
+    h->header = 0;
+    h->got = 0;
+    memset(h->body, 0, 128);
+}
 
-    if (answer != 0)
-        return answer;
-    h->reply = 0;
+static int gather(struct head *h, uint8_t byte)
+{
+    int refused = gather_refusal(h);
+
+    if (refused != 0)
+        return refused;
     if (h->got == 0) {
         if (bad(byte))
             return stop(h, 22);
@@ -207,15 +233,25 @@ static int receive(struct head *h, uint8_t byte, uint8_t *room, size_t room_len,
         h->got = 1;
         return GOES_ON;
     }
-    if ((h->header >> 3 & 3) == 2)
+    if (for_firmware(h->header))
         h->body[h->got - 1] = byte;
     if (h->got++ < length(h->header))
         return GOES_ON;
-    if ((h->header >> 3 & 3) == 2)
-        answer = act(h, room, ram, uds);
-    h->header = 0;
-    h->got = 0;
-    memset(h->body, 0, 128);
+    if (for_firmware(h->header))
+        return IS_WHOLE;
+    clear_frame(h);
+    return GOES_ON;
+}
+
+static int act(struct head *h, uint8_t *room, size_t room_len, uint8_t *ram, size_t ram_len, uint32_t *uds, size_t words)
+{
+    int answer = act_refusal(h, room_len, ram_len, words);
+
+    if (answer != 0)
+        return answer;
+    h->reply = 0;
+    answer = perform(h, room, ram, uds);
+    clear_frame(h);
     return answer;
 }
 
@@ -259,7 +295,8 @@ int main(void)
             uds[i] = 0x13121110;
         begin(&h, record, udi, RAM_LEN);
         for (size_t i = 0; i < n; i++)
-            receive(&h, frames[i], room, sizeof room, ram, sizeof ram, uds, 8);
+            if (gather(&h, frames[i]) == IS_WHOLE)
+                act(&h, room, sizeof room, ram, sizeof ram, uds, 8);
         received += n;
     }
     printf("size %u\nreceived %llu\ncdi ", size, (unsigned long long)received);

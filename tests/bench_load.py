@@ -29,7 +29,7 @@ def play(size):
     answer, head = begin(RECORD, UDI, RAM)
     room, ram, words = bytearray(129), bytearray(RAM), list(SECRET)
     for byte in b"".join(frames(size)):
-        answer = head.receive(byte, room, ram, words)
+        answer = head.hear(byte, room, ram, words)
     return answer
 
 

@@ -14,7 +14,7 @@ SIZE = 320  # of a call
 
 ROOM, RAM, WORDS = 160, 301, 9  # what there is to lend from
 PHASES = ["waiting", "loading", "started", "stopped"]
-BEGIN, RECEIVE, HASH_BEGIN, HASH_UPDATE, HASH_FINISH, READ_HEADER, WRITE_HEADER, DERIVE = range(8)
+BEGIN, GATHER, HASH_BEGIN, HASH_UPDATE, HASH_FINISH, READ_HEADER, WRITE_HEADER, DERIVE, ACT = range(9)
 
 
 def state_bytes(head):
@@ -31,7 +31,6 @@ def answer_bytes(answer):
 class Calls:
     def __init__(self):
         self.data = []
-        self.verified = 0  # random starts in which a digest was required
         self.wanted = []  # for each call: what it is, and what must be written, as pairs of a name and bytes
 
     def add(self, what, kind, call, *fields):
@@ -44,13 +43,19 @@ class Calls:
         call = struct.pack("<xxxHxx257sxxxQ8s", len(record), bytes(record), ram, udi)
         self.add(what, BEGIN, call, ("answer", answer_bytes(answer)), ("state", state_bytes(head)))
 
-    def receive(self, what, byte, lent, state, memory, answer, head, room, ram, words):
-        """lent: the lengths of room, RAM and words. state and memory are bytes for the call to set before it, or nothing to go on with what
-        is there. The rest is what there must be after it."""
-        call = struct.pack("<BBBHBB36s254s", byte, lent[0], lent[2], lent[1], state is not None, memory is not None, memory or b"", state or b"")
+    # state and memory are bytes for a call to set before it, or nothing to go on with what is there. What comes after them is what there must
+    # be after the call.
+
+    def gather(self, what, byte, state, answer, head):
+        call = struct.pack("<BxxxxBx36x254s", byte, state is not None, state or b"")
+        self.add(what, GATHER, call, ("answer", answer_bytes(answer)), ("state", state_bytes(head)))
+
+    def act(self, what, lent, state, memory, answer, head, room, ram, words):
+        """lent: the lengths of room, RAM and words."""
+        call = struct.pack("<xBBHBB36s254s", lent[0], lent[2], lent[1], state is not None, memory is not None, memory or b"", state or b"")
         fields = [("answer", answer_bytes(answer)), ("reply length", struct.pack("<Q", answer.reply)), ("CDI", answer.cdi), ("digest", answer.digest)]
         fields += [("state", state_bytes(head)), ("room", bytes(room)), ("RAM", bytes(ram)), ("words", struct.pack("<9I", *words))]
-        self.add(what, RECEIVE, call, *fields)
+        self.add(what, ACT, call, *fields)
 
     # ---- a hash in parts, headers and the CDI
 
@@ -84,10 +89,10 @@ class Calls:
         return b"".join(want for _, fields in self.wanted for _, want in fields)
 
     def answers(self):
-        """Each answer as a letter and its number; a start without its size."""
-        for _, ((name, want), *_) in self.wanted:
+        """For each call its number, and its answer as a letter and, for refusals and stops, a number."""
+        for call, (_, ((_, want), *_)) in zip(self.data, self.wanted):
             letter, number = chr(want[0]), int.from_bytes(want[1:5], "little")
-            yield "S" if letter == "S" else f"{letter} {number}"
+            yield call[0], f"{letter} {number}" if letter in "XF" else letter
 
     def play(self):
         """What is wrong, or nothing."""

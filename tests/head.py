@@ -1,4 +1,5 @@
-"""Document 01's head, written again from the document: the second implementation that the tests hold the loader to.
+"""Document 01's head with the two calls of change request 8, written again from the papers: the second implementation that the tests hold
+the loader to.
 
 Nothing here is taken from the loader. BLAKE2s is hashlib's.
 """
@@ -25,7 +26,8 @@ def number(data):
 
 @dataclass
 class Answer:
-    """W goes on, X is a refusal and F a stop with its number, S a start with its size; reply is how many bytes of the room are one."""
+    """W goes on, A is a frame that is whole, X a refusal and F a stop with its number, S a start with its size; reply is how many bytes of the
+    room are one."""
 
     kind: str
     number: int = 0
@@ -36,7 +38,7 @@ class Answer:
 
 @dataclass
 class Frame:
-    """The frame that is being received: got counts the header, and is 0 between frames."""
+    """The frame that is being gathered, or that is whole and is to be acted on: got counts the header, and is 0 between frames."""
 
     header: int = 0
     got: int = 0
@@ -51,10 +53,19 @@ class Frame:
     def endpoint(self):
         return self.header >> 3 & 3
 
+    def whole(self):
+        """A frame for another endpoint never is."""
+        return self.endpoint() == FIRMWARE and self.got == 1 + self.length()
+
+
+def first(numbers):
+    """The number of the first refusal that applies, in the order of the tests; 0 if none does."""
+    return next((k for k, applies in numbers.items() if applies), 0)
+
 
 @dataclass
 class Head:
-    """A head between two bytes."""
+    """A head between two calls."""
 
     ram: int
     udi: bytes = bytes(8)
@@ -77,7 +88,7 @@ class Head:
             return False
         if f.got == 0 and f.header != 0:
             return False
-        if f.got > 0 and (f.bad() or f.got > f.length()):
+        if f.got > 0 and (f.bad() or f.got > f.length() and not f.whole()):
             return False
         if self.phase == "waiting":
             return self.size == 0 and self.block == 0 and not self.uss_used and self.uss == ZEROS
@@ -85,21 +96,28 @@ class Head:
             return 1 <= self.size <= self.ram and self.block * 127 < self.size
         return True
 
-    def refusal(self, room, ram, words):
-        """The lowest number that applies, 0 if none does."""
-        numbers = {
-            1: not self.in_range(),
-            2: self.phase in ("started", "stopped"),
-            3: len(room) < 129,
-            4: len(ram) != self.ram,
-            5: len(words) != 8,
-        }
-        return min((k for k, applies in numbers.items() if applies), default=0)
+    def ended(self):
+        return self.phase in ("started", "stopped")
+
+    def gather_refusal(self):
+        return first({1: not self.in_range(), 2: self.ended(), 47: self.frame.whole()})
+
+    def act_refusal(self, room, ram, words):
+        return first(
+            {
+                1: not self.in_range(),
+                2: self.ended(),
+                47: not self.frame.whole(),
+                3: len(room) < 129,
+                4: len(ram) != self.ram,
+                5: len(words) != 8,
+            }
+        )
 
     # ---- a byte
 
-    def receive(self, byte, room, ram, words):
-        refused = self.refusal(room, ram, words)
+    def gather(self, byte):
+        refused = self.gather_refusal()
         if refused:
             return Answer("X", refused)
         f = self.frame
@@ -110,10 +128,14 @@ class Head:
         if f.endpoint() == FIRMWARE:
             f.body[f.got - 1] = byte
         f.got += 1
-        if f.got <= f.length():
-            return Answer("W")
-        self.frame = Frame()
-        return self.act(f, room, ram, words) if f.endpoint() == FIRMWARE else Answer("W")
+        if f.endpoint() != FIRMWARE and f.got > f.length():
+            self.frame = Frame()
+        return Answer("A" if f.whole() else "W")
+
+    def hear(self, byte, room, ram, words):
+        """Gathers a byte, and acts at once if a frame is whole with it."""
+        answer = self.gather(byte)
+        return self.act(room, ram, words) if answer.kind == "A" else answer
 
     def stop(self, why, reply=0):
         self.end("stopped")
@@ -125,7 +147,12 @@ class Head:
 
     # ---- a whole frame
 
-    def act(self, f, room, ram, words):
+    def act(self, room, ram, words):
+        refused = self.act_refusal(room, ram, words)
+        if refused:
+            return Answer("X", refused)
+        f = self.frame
+        self.frame = Frame()
         commands = {
             "waiting": {0x01: (1, self.say_name), 0x08: (1, self.say_udi), 0x03: (128, self.load)},
             "loading": {0x05: (128, self.take_block)},
@@ -219,7 +246,7 @@ def headlog(data):
     lines = []
     at = PREFIX
     while answer.kind == "W" and at < len(data):
-        answer = head.receive(data[at], room, ram, words)
+        answer = head.hear(data[at], room, ram, words)
         at += 1
         if answer.reply:
             lines.append(f"R {room[:answer.reply].hex()}")

@@ -177,7 +177,7 @@ def answering(change=lambda k, reply: reply):
         replies = 0
         while data := line.some():
             for byte in data:
-                answer = device.receive(byte, room, memory, words)
+                answer = device.hear(byte, room, memory, words)
                 if answer.reply:
                     line.write(change(replies, bytes(room[: answer.reply])))
                     replies += 1

@@ -1,12 +1,13 @@
 #!/usr/bin/env python3
-"""Begin and receive against the head of head.py, call by call: sessions, states made by hand, also out of range, and everything lent with
-other lengths than it must have. The program `test_calls` makes each call; its answer, the next state, room, RAM and words must be the
-same, in accepted and refused calls alike.
+"""Begin, gather and act against the head of head.py, call by call: sessions, lists of calls in random order, states made by hand, also out
+of range, and everything lent with other lengths than it must have. The program `test_calls` makes each call; its answer, the next state,
+room, RAM and words must be the same, in accepted and refused calls alike.
 
     scenarios.py                  plays them all
     scenarios.py --store          writes the stored input and output of `test_calls`: document 01's example
     scenarios.py --check          exits non-zero unless these are so stored
 """
+import itertools
 import random
 import struct
 import sys
@@ -15,7 +16,7 @@ from copy import deepcopy
 from pathlib import Path
 
 import calls
-from head import RAM_MOST, ZEROS, Answer, Frame, Head, begin, blake2s
+from head import RAM_MOST, ZEROS, Frame, Head, begin, blake2s
 
 STORED = Path(__file__).parent.parent / "crates" / "test_calls"
 
@@ -27,7 +28,8 @@ REQUIRED = b"\xc3" * 32
 MEASURED_ID = b"\x3c" * 32
 PROGRAM = bytes((7 * i + 3) % 256 for i in range(3 * 127))
 COUNTING = bytes(range(0xA0, 0xC0))
-RANDOM_CALLS = 40000
+RANDOM_CALLS = 60000
+RANDOM_LISTS = 200
 
 
 def waiting(**changes):
@@ -72,24 +74,35 @@ class Session:
         self.ram = bytearray(b"\xaa" * calls.RAM)
         self.words = [*words, 0x5EED5EED][: calls.WORDS]
         self.state, self.memory = calls.state_bytes(self.head), struct.pack("<9I", *self.words)
-        self.answer = Answer("W")
+        self.answer = None
+
+    def gather(self, byte):
+        self.answer = self.head.gather(byte)
+        self.made.gather(f"{self.what}, byte {byte:02x}", byte, self.state, self.answer, self.head)
+        self.state = None
+        return self
+
+    def act(self, room=calls.ROOM, ram=RAM, words=8):
+        """With so much lent. What is not lent must stay too."""
+        lent = [bytearray(b"\xee" * room), self.ram[:ram], self.words[:words]]
+        self.answer = self.head.act(*lent)
+        self.ram[:ram], self.words[:words] = lent[1:]
+        rest = b"\xee" * (calls.ROOM - room)
+        what = f"{self.what}, act"
+        self.made.act(what, (room, ram, words), self.state, self.memory, self.answer, self.head, lent[0] + rest, self.ram, self.words)
+        self.state = self.memory = None
+        return self
+
+    def hear(self, byte, **lent):
+        """Gathers a byte, and acts if a frame is whole with it."""
+        self.gather(byte)
+        return self.act(**lent) if self.answer.kind == "A" else self
 
     def send(self, data):
         """The bytes until the head ends: after that none is sent."""
         for byte in data:
-            if self.answer.kind == "W":
-                self.offer(byte)
-        return self
-
-    def offer(self, byte, room=calls.ROOM, ram=RAM, words=8):
-        """A call with so much lent. What is not lent must stay too."""
-        lent = [bytearray(b"\xee" * room), self.ram[:ram], self.words[:words]]
-        self.answer = self.head.receive(byte, *lent)
-        self.ram[:ram], self.words[:words] = lent[1:]
-        rest = b"\xee" * (calls.ROOM - room)
-        what = f"{self.what}, byte {byte:02x}"
-        self.made.receive(what, byte, (room, ram, words), self.state, self.memory, self.answer, self.head, lent[0] + rest, self.ram, self.words)
-        self.state = self.memory = None
+            if not self.head.ended():
+                self.hear(byte)
         return self
 
 
@@ -114,7 +127,7 @@ def client_session(made):
     data += frame(0x13, block(0))
     data += frame(0x1B, block(2)) + frame(0x23, passed_over) + frame(0x08, other(0x01))
     data += frame(0x53, block(1))
-    Session("type 4", made).send(data).offer(0x10)
+    Session("type 4", made).send(data).gather(0x10).act()
 
 
 def late_secret(made):
@@ -191,13 +204,18 @@ def stops(made):
 # ---- begin
 
 
-def begin_with(made, what, record, ram=RAM, udi=UDI):
-    """Begin, and a byte on the state that it hands back."""
+def begun(made, what, record, udi=UDI, ram=RAM, words=UDS):
+    """A session that begin opens, whatever it answers."""
     answer, head = begin(record, udi, ram)
     made.begin(what, record, udi, ram, answer, head)
-    s = Session(what, made, head)
+    s = Session(what, made, head, words)
     s.state = None
-    return s.offer(0x10)
+    return s
+
+
+def begin_with(made, what, record, ram=RAM, udi=UDI):
+    """Begin, and both calls on the state that it hands back."""
+    begun(made, what, record, udi, ram).act().gather(0x10)
 
 
 def begins(made):
@@ -228,15 +246,6 @@ def last_of_query(**changes):
 
 
 OUT_OF_RANGE = {
-    "gathered frame": [
-        last_block(0x10, 2),
-        last_block(0x11, 5),
-        last_block(0x12, 33),
-        last_block(0x13, 129),
-        last_block(0x93, 128),
-        last_block(0x17, 128),
-        last_block(0x13, 0),
-    ],
     # The last two are in range, but what is lent has another length.
     "RAM": [last_of_query(ram=0), last_of_query(ram=131073), last_of_query(ram=2**32 + RAM), last_of_query(ram=1), last_of_query(ram=131072)],
     "waiting": [last_of_query(size=1), last_of_query(block=1), last_of_query(uss_used=True), last_of_query(uss=bytes(31) + b"\1")],
@@ -250,43 +259,63 @@ OUT_OF_RANGE = {
     ],
 }
 
-LENT = [
-    dict(room=128),
-    dict(room=0),
-    dict(ram=299),
-    dict(ram=301),
-    dict(ram=0),
-    dict(words=7),
-    dict(words=9),
-    dict(words=0),
-    dict(room=129),
-]
-
 
 def refusals(made):
     for name, heads in OUT_OF_RANGE.items():
         for head in heads:
-            Session(f"out of range: {name}", made, deepcopy(head)).offer(0x01)
+            both(made, f"out of range: {name}", head)
     for phase in ["started", "stopped"]:
-        Session(phase, made, last_block(phase=phase, size=0)).offer(0x01)
-    for lengths in LENT:
-        Session(f"lent {lengths}", made, last_block()).offer(0x01, **lengths)
-    few = dict(room=128, ram=299, words=7)
-    Session("1 to 5", made, last_block(phase="started", size=0, ram=0)).offer(0x01, **few)
-    Session("2 to 5", made, last_block(phase="stopped", size=0)).offer(0x01, **few)
-    Session("3 to 5", made, last_block()).offer(0x01, **few)
-    Session("4 and 5", made, last_block()).offer(0x01, ram=299, words=7)
-    between_bytes(made)
+        both(made, phase, last_block(phase=phase, size=0))
+    borders(made)
+    loans(made)
+    combinations(made)
+    between_calls(made)
 
 
-def between_bytes(made):
-    """Refused calls within a frame: the session goes on."""
+def both(made, what, head):
+    """Either call on a head, and on it with one byte more of its frame."""
+    later = deepcopy(head)
+    later.frame.got += 1
+    for h in [head, later]:
+        Session(what, made, deepcopy(h)).hear(0x01)
+        Session(what, made, deepcopy(h)).act()
+
+
+def borders(made):
+    """How much of a frame has come: at most its body's length, and for the firmware one byte more, with which it is whole."""
+    for header in [*range(0x00, 0x04), *range(0x08, 0x0C), *range(0x10, 0x14), *range(0x18, 0x1C), 0x17, 0x93]:
+        for got in [0, Frame(header).length(), Frame(header).length() + 1, 254]:
+            both(made, f"header {header:02x}, {got} bytes", last_block(header, got))
+
+
+def loans(made):
+    """Every length of what is lent, to an acting that starts."""
+    for name, most in [("room", calls.ROOM), ("ram", calls.RAM), ("words", calls.WORDS)]:
+        for n in range(most + 1):
+            Session(f"{name} {n}", made, last_block()).hear(0x01, **{name: n})
+
+
+def combinations(made):
+    """Every set of refusals that apply at once: 1, 2, 47 to both calls, and to acting also 3, 4, 5."""
+    for one, two, turn in itertools.product([False, True], repeat=3):
+        changes = dict(ram=0 if one else RAM, phase="stopped" if two else "loading")
+        Session("refusals of gathering", made, last_block(got=129 if turn else 128, **changes)).gather(0x01)
+        for three, four, five in itertools.product([False, True], repeat=3):
+            s = Session("refusals of acting", made, last_block(got=128 if turn else 129, **changes))
+            s.act(room=128 if three else 129, ram=s.head.ram + four, words=7 if five else 8)
+
+
+def between_calls(made):
+    """Refused calls within a frame, and when it is whole: the session goes on."""
     data = frame(0x13, load(100, 1, COUNTING)) + frame(0x13, block(0))
-    s = Session("refused between bytes", made).send(data[:-68])
-    for lengths in [dict(room=128), dict(ram=299), dict(words=7)]:
-        s.offer(0x01, **lengths)
-        s.answer = Answer("W")
-    s.send(data[-68:])
+    few = [dict(room=128), dict(ram=299), dict(words=7)]
+    s = Session("refused between calls", made).send(data[:-68])
+    for lent in [*few, {}]:
+        s.act(**lent)
+    s.send(data[-68:-1]).gather(data[-1])
+    for lent in few:
+        s.gather(0x01).act(**lent)
+    s.act()
 
 
 # ---- random calls
@@ -295,8 +324,9 @@ def between_bytes(made):
 def random_head(rng):
     """A state with every field near its limits, in range or not."""
     size, ram = rng.choice([0, 1, 100, 127, 128, 254, 255, 299, 300, 301]), rng.choice([RAM] * 20 + [0, 1, 299, RAM_MOST, RAM_MOST + 1])
-    frames = [Frame(rng.choice([0x10, 0x11, 0x13, 0x53, 0x1B, 0x02, 0x14, 0x90, rng.randrange(256)]), rng.choice([0, 1, 2, 4, 5, 32, 33, 127, 128, 129]))]
-    frames += [Frame(), Frame(0x13, 128), Frame(0x33, 128), Frame(0x10, 1)]
+    header = rng.choice([0x10, 0x11, 0x13, 0x53, 0x1B, 0x02, 0x14, 0x90, rng.randrange(256)])
+    frames = [Frame(header, rng.choice([0, 1, 2, 3, 4, 5, 6, 32, 33, 34, 127, 128, 129, 130]))]
+    frames += [Frame(), Frame(0x13, 128), Frame(0x33, 128), Frame(0x10, 1), Frame(0x13, 129), Frame(0x33, 129), Frame(0x10, 2)]
     f = rng.choice(frames)
     f.body[:] = rng.choice([load(size, rng.choice([0, 1, 2]), rng.randbytes(32)), block(0), rng.randbytes(128), bytes(128)])
     head = waiting(ram=ram, verify=rng.random() < 0.3, chained=rng.random() < 0.5, frame=f, udi=rng.randbytes(8))
@@ -307,27 +337,80 @@ def random_head(rng):
     return head
 
 
-def measured(head, byte):
-    """The digest that the program has if this byte ends its last block."""
+def measured(head, body):
+    """The digest that the program has if this is the body of its last block."""
     ram = bytearray(b"\xaa" * RAM)
-    carried = bytes(head.frame.body[1:-1]) + bytes([byte])
     start = 127 * head.block
-    ram[start : start + 127] = carried[: max(0, RAM - start)]
+    ram[start : start + 127] = body[1:][: max(0, RAM - start)]
     return blake2s(ram[: head.size])
 
 
-def random_calls(made):
+def random_loans(rng, ram):
+    """Mostly as they must be for this length of RAM."""
+    return dict(room=rng.choice([160] * 9 + [129, 128, 0]), ram=rng.choice([ram] * 9 + [299, 301]) % 302, words=rng.choice([8] * 9 + [7, 9]))
+
+
+def random_calls(made, seen):
     rng = random.Random(7)
     for k in range(RANDOM_CALLS):
         head = random_head(rng)
         byte = rng.choice([0x01, 0x03, 0x05, 0x08, 0x10, 0xAA, rng.randrange(256)])
-        lengths = dict(room=rng.choice([160] * 9 + [129, 128, 0]), ram=rng.choice([head.ram] * 9 + [299, 301]) % 302, words=rng.choice([8] * 9 + [7, 9]))
+        loans = random_loans(rng, head.ram)
+        hears = rng.random() < 0.6
         if rng.random() < 0.5:
-            head.required = measured(head, byte)
+            head.required = measured(head, bytes(head.frame.body[:-1]) + bytes([byte]) if hears else head.frame.body)
         verify = head.verify
         s = Session(f"random call {k}", made, head, [rng.randrange(2**32) for _ in range(8)])
-        s.offer(byte, **lengths)
-        made.verified += verify and s.answer.kind == "S"
+        if hears:
+            s.hear(byte, **loans)
+        else:
+            s.act(**loans)
+        seen["random calls", "verified starts"] += verify and s.answer.kind == "S"
+
+
+# ---- lists of calls in random order
+
+
+def random_data(rng, size):
+    """A load that is to start, among frames that do not matter, and sometimes with one that stops it or cut off; then a query."""
+    uss = rng.choice([ZEROS, rng.randbytes(32)])
+    frames = [(0x13, load(size, rng.choice([0, 1]), uss))] + [(0x13, block(k)) for k in range((size + 126) // 127)]
+    frames[:0] = [(0x10, other(rng.choice([0x01, 0x08]))) for _ in range(rng.randrange(3))]
+    if rng.random() < 0.3:
+        frames.insert(0, (0x13, load(*rng.choice([(0, 1), (RAM + 1, 0), (size, 2)]))))
+    for _ in range(rng.randrange(4)):
+        frames.insert(rng.randrange(len(frames)), (rng.choice([0x00, 0x08, 0x18]) + rng.randrange(4), load(size)))
+    if rng.random() < 0.5:
+        header, command = rng.choice(sum(WAITING_STOPS + LOADING_STOPS, []))
+        frames.insert(rng.randrange(len(frames)), (header, other(command)))
+    data = b"".join(frame(header | rng.randrange(4) << 5, body) for header, body in frames)
+    return data[: rng.randrange(len(data))] if rng.random() < 0.1 else data + b"\x10\x01"
+
+
+def in_any_order(rng, s, data):
+    """Gatherings and actings as they come, whether or not it is their turn: a byte is offered until it is taken. Six calls follow the end."""
+    gathers = rng.choice([0.6, 0.8, 0.95])
+    at, after = 0, 0
+    for _ in range(5 * len(data)):
+        if rng.random() < gathers:
+            s.gather(data[at])
+            at += s.answer.kind != "X"
+        else:
+            s.act(**random_loans(rng, RAM))
+        after += s.head.ended()
+        if at == len(data) or after > 6:
+            break
+
+
+def random_lists(made, seen):
+    rng = random.Random(8)
+    for k in range(RANDOM_LISTS):
+        size, kind, mask = rng.choice([1, 127, 128, 254, 255, 300]), rng.choice([4, 5]), rng.choice([0, 1])
+        required = rng.choice([blake2s(PROGRAM[:size])] * 3 + [rng.randbytes(32)])
+        record = struct.pack("<II32s216s", kind, mask, required, rng.randbytes(216))
+        s = begun(made, f"list {k}", record, rng.randbytes(8), words=[rng.randrange(2**32) for _ in range(8)])
+        in_any_order(rng, s, random_data(rng, size))
+        seen["lists", s.head.phase] += 1
 
 
 # ---- document 01's example, which is what the gate's run of the program has on standard input
@@ -335,12 +418,7 @@ def random_calls(made):
 
 def example():
     made = calls.Calls()
-    record = b"\4" + bytes(255)
-    answer, head = begin(record, bytes(8), RAM)
-    made.begin("begin", record, bytes(8), RAM, answer, head)
-    s = Session("example", made, head, [0] * 8)
-    s.state = None
-    s.send(b"\x10\x01")
+    begun(made, "example", b"\4" + bytes(255), bytes(8), words=[0] * 8).send(b"\x10\x01")
     return made
 
 
@@ -360,19 +438,30 @@ def store():
 
 
 # What must come up, so that agreement says something.
-KINDS = ["W 0", "S", *(f"X {k}" for k in range(1, 8)), *(f"F {k}" for k in range(20, 26))]
+CALLS = {calls.BEGIN: "begin", calls.GATHER: "gather", calls.ACT: "act"}
+KINDS = {
+    "begin": ["W", "X 6", "X 7", "F 20", "F 21"],
+    "gather": ["W", "A", "X 1", "X 2", "X 47", "F 22"],
+    "act": ["W", "S", "X 1", "X 2", "X 47", "X 3", "X 4", "X 5", "F 23", "F 24", "F 25"],
+    "random calls": ["verified starts"],
+    "lists": ["waiting", "loading", "started", "stopped"],
+}
 
 
 def main():
-    made = calls.Calls()
-    for part in [begins, loads, digests, stops, refusals, random_calls]:
+    made, seen = calls.Calls(), Counter()
+    for part in [begins, loads, digests, stops, refusals]:
         part(made)
+    random_calls(made, seen)
+    random_lists(made, seen)
     if what := made.play():
         print(f"scenarios: {what}")
         return 1
-    seen = Counter(kind for kind in made.answers())
-    print(f"scenarios: {len(made.data)} calls; " + ", ".join(f"{seen[k]} {k}" for k in KINDS) + f"; {made.verified} random starts with a required digest")
-    return 0 if made.verified and all(seen[k] for k in KINDS) else 1
+    seen.update((CALLS[k], answer) for k, answer in made.answers())
+    print(f"scenarios: {len(made.data)} calls")
+    for name, kinds in KINDS.items():
+        print(f"  {name}: " + ", ".join(f"{seen[name, k]} {k}" for k in kinds))
+    return 0 if all(seen[name, k] for name, kinds in KINDS.items() for k in kinds) else 1
 
 
 if __name__ == "__main__":

@@ -1,15 +1,15 @@
 // The cable: a head with 131,072 bytes of RAM receives whole loads.
 use super::frames;
+use loader::Acted;
 use loader::Answer;
-use loader::Received;
 use loader::State;
 
 // What the loads came to.
 pub struct Loaded {
     // How many bytes were received.
     pub received: u64,
-    // The answer to the last one.
-    pub last: Received,
+    // What acting on the last frame gave.
+    pub last: Acted,
 }
 
 // Loads a program of this size so many times.
@@ -33,8 +33,8 @@ fn repeat(bytes: &[u8], times: u32, ram: &mut [u8]) -> Loaded {
     Loaded { received, last }
 }
 
-// One session, from begin on. It starts with the last byte or not at all, so that a start says that every byte was accepted.
-fn session(bytes: &[u8], ram: &mut [u8]) -> Received {
+// One session, from begin on. It starts with the last frame or not at all, so that a start says that every byte was accepted.
+fn session(bytes: &[u8], ram: &mut [u8]) -> Acted {
     let mut room = [0u8; 129];
     let mut words = [0x13121110u32; 8];
     play(begun(), bytes, &mut room, ram, &mut words)
@@ -48,9 +48,9 @@ fn begun() -> State {
     b.state
 }
 
-// The answer before the first byte.
-fn going_on(state: State) -> Received {
-    Received {
+// Before the first frame.
+fn going_on(state: State) -> Acted {
+    Acted {
         answer: Answer::Continue,
         reply: 0,
         state,
@@ -59,12 +59,29 @@ fn going_on(state: State) -> Received {
     }
 }
 
-fn play(s: State, bytes: &[u8], room: &mut [u8], ram: &mut [u8], words: &mut [u32]) -> Received {
+fn is_whole(a: Answer) -> bool {
+    match a {
+        Answer::Whole => true,
+        _ => false,
+    }
+}
+
+// Gathers the bytes, and acts on each frame that is whole.
+fn play(s: State, bytes: &[u8], room: &mut [u8], ram: &mut [u8], words: &mut [u32]) -> Acted {
+    let mut state = s;
     let mut last = going_on(s);
     let mut i: usize = 0;
     while i < bytes.len() {
-        let next = loader::receive(last.state, bytes[i], room, ram, words);
-        last = next;
+        let g = loader::gather(state, bytes[i]);
+        let answer = g.answer;
+        let gathered = g.state;
+        state = gathered;
+        if is_whole(answer) {
+            let next = loader::act(state, room, ram, words);
+            let acted = next.state;
+            state = acted;
+            last = next;
+        }
         i = i + 1;
     }
     last

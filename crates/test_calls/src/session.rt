@@ -1,7 +1,7 @@
-// Begin and receive.
+// Begin, gather and act.
 use super::image;
+use loader::Acted;
 use loader::Answer;
-use loader::Received;
 use loader::State;
 ghost use Prim.Native.Nat.{_≤_};
 
@@ -24,7 +24,8 @@ pub fn none() -> Kept {
 pub fn call(k: Kept, c: [u8; 320]) -> Kept {
     match c[0] {
         0 => begin(k, c),
-        1 => receive(set(k, c), c),
+        1 => gather(set(k, c), c[1]),
+        8 => act(set(k, c), c),
         _ => k,
     }
 }
@@ -46,6 +47,19 @@ fn begin(k: Kept, c: [u8; 320]) -> Kept {
     let b = loader::begin(endian::first(&c[8..], n), udi, ram_len);
     let answer = b.answer;
     let state = b.state;
+    next(k, answer, state)
+}
+
+// Byte 1 is gathered.
+fn gather(k: Kept, byte: u8) -> Kept {
+    let g = loader::gather(k.state, byte);
+    let answer = g.answer;
+    let state = g.state;
+    next(k, answer, state)
+}
+
+// After a call that is lent neither RAM nor words.
+fn next(k: Kept, answer: Answer, state: State) -> Kept {
     let ram = k.ram;
     let words = k.words;
     write_answer(answer);
@@ -83,39 +97,39 @@ fn words_in(c: [u8; 320]) -> [u32; 9] {
     ]
 }
 
-// Byte 1 is received, with so many bytes of room (byte 2), words (byte 3) and bytes of RAM (bytes 4 and 5) lent.
-fn receive(k: Kept, c: [u8; 320]) -> Kept {
+// Acts, with so many bytes of room (byte 2), words (byte 3) and bytes of RAM (bytes 4 and 5) lent.
+fn act(k: Kept, c: [u8; 320]) -> Kept {
     let room_len = length(c[2], 0, 160);
     let words_len = length(c[3], 0, 9);
     let ram_len = length(c[4], c[5], 301);
     let ram = k.ram;
     let words = k.words;
-    lend(k.state, ram, words, c[1], room_len, ram_len, words_len)
+    lend(k.state, ram, words, room_len, ram_len, words_len)
 }
 
 // The fronts of a room, of RAM and of the words are lent.
-fn lend(s: State, r: [u8; 301], w: [u32; 9], byte: u8, a: usize, b: usize, n: usize) -> Kept
+fn lend(s: State, r: [u8; 301], w: [u32; 9], a: usize, b: usize, n: usize) -> Kept
     requires { ⌜ (a ≤ 160) × (b ≤ 301) × (n ≤ 9) ⌝ }
 {
     let mut room = [0xeeu8; 160];
     let mut ram = r;
     let mut words = w;
-    let x = loader::receive(s, byte, &mut room[..a], &mut ram[..b], &mut words[..n]);
+    let x = loader::act(s, &mut room[..a], &mut ram[..b], &mut words[..n]);
     let state = x.state;
-    write_received(x);
+    write_acted(x);
     write_lent(room, ram, words);
     Kept { state, ram, words }
 }
 
 // ---- what is written
 
-fn write_received(r: Received) {
-    let answer = r.answer;
-    let state = r.state;
-    let cdi = r.cdi;
-    let digest = r.digest;
+fn write_acted(a: Acted) {
+    let answer = a.answer;
+    let state = a.state;
+    let cdi = a.cdi;
+    let digest = a.digest;
     write_answer(answer);
-    image::write_length(r.reply);
+    image::write_length(a.reply);
     image::write(&cdi);
     image::write(&digest);
     image::write_state(state);
@@ -125,6 +139,7 @@ fn write_received(r: Received) {
 fn write_answer(a: Answer) {
     match a {
         Answer::Continue => write_numbers(b'W', 0, 0),
+        Answer::Whole => write_numbers(b'A', 0, 0),
         Answer::Refused(why) => write_numbers(b'X', loader::refusal_number(why) as u32, 0),
         Answer::Stopped(why) => write_numbers(b'F', loader::stop_number(why) as u32, 0),
         Answer::Started { address, size } => write_numbers(b'S', size, address),

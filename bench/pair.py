@@ -1,4 +1,4 @@
-"""The table of bench/receive.sh: receive.py PROVED PEER, two programs that load the same program and print the same lines."""
+"""The table of bench/pair.sh: pair.py PROVED PEER, two programs that load the same program and print the same lines."""
 import subprocess
 import sys
 import time
