@@ -6,7 +6,7 @@ import time
 SIZES = [1024 << k for k in range(8)]
 ROUNDS = 3  # of which the best counts; the two programs take turns
 LEAST = 0.5  # seconds
-MOST = 4.0  # at the largest size; it is 3.2
+MOST = 4.0  # at the largest size
 
 
 def run(program, size, times):
