@@ -1,9 +1,12 @@
 -- Lists of bytes compared.
-use Prim.Native.Nat.{ℕ}
+use Prim.Native.Nat.{ℕ, _+_, _<_}
 use mathlib.Core.Bool.{Bool, true, false, _&&_}
 use mathlib.Core.List.{List, [], _∷_}
-use mathlib.Core.Path.{_≡_, refl, sym}
+use mathlib.Core.Path.{_≡_, refl, ap}
+use native.Mathlib.Numerals.{add-one}
 use lib.Dec.{eqb}
+use lib.ListN.{length, getD, drop}
+use lib.Seq.{drop-cons, drop-length}
 use borrow.Author.Tests.{eq-eqb, eqb-true}
 use Rattle.endian.proofs.Cases.{impossible}
 use Rattle.endian.specs.Lists.{same}
@@ -22,11 +25,26 @@ same-eq (x ∷ xs) (y ∷ ys) e = go (eqb x y) refl e (same-eq xs ys)
     go true p q f = let a : x ≡ y = eqb-true x y p in let b : xs ≡ ys = f q in cc
     go false p q f = impossible cc
 
--- a test that is true exactly where the lists are equal is `same`
-pub same-is : (r : Bool) (xs ys : List ℕ) → (r ≡ true → xs ≡ ys) → (xs ≡ ys → r ≡ true) → r ≡ same xs ys
-same-is true xs ys f g = sym (let e : xs ≡ ys = f refl in rw e (same-refl ys))
-same-is false xs ys f g = go (same xs ys) refl
+pub same-length : (xs ys : List ℕ) → (length xs ≡ length ys → ⊥) → same xs ys ≡ false
+same-length xs ys h = go (same xs ys) refl
   where
-    go : (t : Bool) → same xs ys ≡ t → false ≡ t
-    go true p = g (same-eq xs ys p)
+    go : (t : Bool) → same xs ys ≡ t → t ≡ false
+    go true p = absurd (h (ap length (same-eq xs ys p)))
     go false p = refl
+
+-- a turn of a loop that compares: r says whether the bytes so far are equal
+pub same-more : (r : Bool) (xs ys : List ℕ) (i : ℕ) → i < length xs → i < length ys
+    → (r && eqb (getD xs i 0) (getD ys i 0)) && same (drop (i + 1) xs) (drop (i + 1) ys) ≡ r && same (drop i xs) (drop i ys)
+same-more true xs ys i h k = rw (add-one, drop-cons xs i 0 h, drop-cons ys i 0 k)
+same-more false xs ys i h k = refl
+
+-- behind the last byte
+pub same-end : (r : Bool) (xs ys : List ℕ) (i : ℕ) → i ≡ length xs → i ≡ length ys → r && same (drop i xs) (drop i ys) ≡ r
+same-end r xs ys i e f =
+    let a : drop i xs ≡ [] = rw e (drop-length xs) in
+    let b : drop i ys ≡ [] = rw f (drop-length ys) in
+    rw (a, b) (go r)
+  where
+    go : (r : Bool) → r && true ≡ r
+    go true = refl
+    go false = refl

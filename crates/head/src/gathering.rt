@@ -69,21 +69,22 @@ fn open(s: State, b: u8) -> Gathered
 }
 
 // A byte of the body that a header announced: it is kept where the frame is for the firmware.
-fn in_body(i: Incoming, endpoint: u8, len: u8, b: u8) -> Incoming
-    requires { ⌜ (1 ≤ i .got) × (i .got ≤ 128) ⌝ }
-    ensures { λ r. ⌜ r ≡ inBody i endpoint len b ⌝ }
+fn in_body(s: State, endpoint: u8, len: u8, b: u8) -> Gathered
+    requires { ⌜ (1 ≤ s .incoming .got) × (s .incoming .got ≤ 128) ⌝ }
+    ensures { λ r. ⌜ gatheringOf r ≡ afterStep (taken (inBody (s .incoming) endpoint len b)) s ⌝ }
 {
+    let i = s.incoming;
     let mut next = i;
     next.got = i.got + 1;
     if endpoint == 2 {
         let at = (i.got - 1) as usize;
         next.body[at] = b;
-        return next;
+        return go_on(s, next);
     }
     if i.got == len {
-        return states::idle();
+        return go_on(s, states::idle());
     }
-    next
+    go_on(s, next)
 }
 
 // A byte of a call that is not refused.
@@ -101,7 +102,7 @@ fn take(s: State, b: u8) -> Gathered
             id: _,
             endpoint,
             len,
-        } => go_on(s, in_body(i, endpoint, len, b)),
+        } => in_body(s, endpoint, len, b),
         Header::Bad => stop(s),
     }
 }

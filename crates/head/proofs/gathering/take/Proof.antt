@@ -20,10 +20,9 @@ in-body-requires c κs =
 returns-2 : tie.Need-returns-2
 unfolding byteStep
 returns-2 c =
-    let i = c .before in
-    let e = i .before .before in
+    let e = c .before .before in
     let h = e .before .before in
-    rw (ne-eqb _ _ (h .before .if1 .left), ← (h .read-header .ensures), e .endpoint .given .1, ← (i .in-body .ensures)) (c .go-on .ensures)
+    rw (ne-eqb _ _ (h .before .if1 .left), ← (h .read-header .ensures), e .endpoint .given .1) (c .in-body .ensures)
 
 returns-3 : tie.Need-returns-3
 unfolding byteStep
@@ -41,7 +40,6 @@ take-spec =
     (λ c κs. search needs)
     (λ c. search needs)
     in-body-requires
-    (λ c κs. search needs)
     (λ c. search needs)
     (λ c κs. search needs)
     returns-2
