@@ -57,7 +57,8 @@ pub fn clear(words: &mut [u32])
     }
 }
 
-// Whether two slices hold the same bytes. Each byte is looked at, wherever they differ.
+// Whether two slices hold the same bytes. Each is looked at, wherever they differ: without an early exit what calls this is small enough
+// for LLVM to inline (docs/PROVING.md).
 pub fn equal(a: &[u8], b: &[u8]) -> bool
     ensures { λ r. ⌜ r ≡ same (now (a .entry)) (now (b .entry)) ⌝ }
 {
