@@ -4,13 +4,16 @@ use mathlib.Core.Path.{_≡_, refl, ap}
 use mathlib.Core.List.{List, _∷_, _++_}
 use lib.ListN.{length, take, replicate}
 use lib.Seq.{take-append-add}
-use Rattle.framing.specs.Header.{headerByte}
+use Rattle.framing.specs.Header.{headerAt, headerByte}
 use Rattle.endian.specs.Endian.{word}
 use Rattle.protocol.specs.Commands.{loadIn}
 use Rattle.protocol.specs.Replies.{replyHeader, sent, nameReply, udiReply, loadReply, blockReply, digestReply}
 use Rattle.record.specs.Record.{recordAt}
 use Rattle.cdi.proofs.Proved.{cdi}
-use Rattle.head.specs.State.{ended}
+use Rattle.head.specs.State.{inRange, ended}
+use Rattle.head.specs.Begin.{beginning}
+use Rattle.head.specs.Gather.{byteStep, gatherRefusal, gathered}
+use Rattle.head.specs.Act.{actRefusal, acted}
 use Rattle.head.specs.KnownAnswers.{KnownAnswers}
 
 -- the first n + k bytes of p, which has n, and of what follows
@@ -26,7 +29,7 @@ unfolding digestReply replyHeader headerByte
 digest-bytes d l = rw l (ap (λ (x : List ℕ). 0x73 ∷ 0x07 ∷ 0 ∷ x) (front d (replicate 94 0) 32 94 l))
 
 pub known-answers : KnownAnswers
-unfolding loadIn word recordAt nameReply loadReply blockReply replyHeader headerByte ended
+unfolding loadIn word recordAt nameReply loadReply blockReply replyHeader headerByte beginning headerAt byteStep inRange gatherRefusal gathered actRefusal acted ended
 known-answers = record {
   flags = (refl, refl, refl, refl, refl, refl);
   types = (refl, refl, refl, refl, refl, refl, refl, refl, refl);
@@ -38,5 +41,9 @@ known-answers = record {
   block = refl;
   digest = digest-bytes;
   strings = cdi .strings;
+  gathering = (refl, refl, refl);
+  acting = (refl, refl, refl, refl, refl, refl);
+  foreign = (refl, refl);
+  ended-at = (refl, refl, refl);
   ends = λ p m. (refl, refl, refl, refl, refl, refl, refl);
 }

@@ -1,4 +1,4 @@
--- Known answers: loads, records, replies, states and strings as literal bytes, beside document 01. No theorem about sessions can fix them,
+-- Known answers: loads, records, replies, calls, states and strings as literal bytes, beside document 01. No theorem about sessions can fix them,
 -- since a head and a reading of the same bytes would share the mistake. The proof is `known-answers` in proofs/KnownAnswers.antt.
 use Prim.Native.Nat.{ℕ}
 use mathlib.Core.Path.{_≡_}
@@ -13,8 +13,12 @@ use Rattle.protocol.specs.declared.Load.{Load}
 use Rattle.record.specs.Record.{recordAt}
 use Rattle.cdi.specs.Theorems.{Strings}
 use Rattle.head.specs.State.{idle, ended}
-use Rattle.head.specs.Act.{loaded}
+use Rattle.head.specs.Answers.{refused, continues, whole, stopped}
+use Rattle.head.specs.Begin.{beginning}
+use Rattle.head.specs.Gather.{gathered}
+use Rattle.head.specs.Act.{loaded, acted}
 use Rattle.head.specs.declared.Phase.{Phase}
+use Rattle.head.specs.declared.State.{State}
 
 -- a load of one byte, with a flag; its user secret is zeros
 abbrev pub flagged : ℕ → Load
@@ -27,6 +31,14 @@ typeOf a b c d = recordAt (padded 256 (a ∷ b ∷ c ∷ d ∷ [])) .type
 -- a record with these bytes for its mask
 abbrev pub masked : ℕ → ℕ → ℕ → ℕ → List ℕ
 masked a b c d = padded 256 (4 ∷ 0 ∷ 0 ∷ 0 ∷ a ∷ b ∷ c ∷ d ∷ [])
+
+-- a head begun on a record of type 4 with one byte of RAM, after these bytes were gathered
+abbrev pub gatheredFrom : State → List ℕ → State
+gatheredFrom s [] = s
+gatheredFrom s (b ∷ bs) = gatheredFrom (gathered s b .state) bs
+
+abbrev pub having : List ℕ → State
+having bs = gatheredFrom (beginning (padded 256 (4 ∷ [])) (zeros 8) 1 .state) bs
 
 pub record KnownAnswers : Type 0 where
   -- flags 0, 1, 2 and 255, in byte 6: 0 means that there is no user secret, 1 that it is used, also one of zeros, and a load with another is
@@ -50,6 +62,18 @@ pub record KnownAnswers : Type 0 where
   pub digest : (d : List ℕ) → length d ≡ 32 → sent (digestReply 0x73 d) ≡ 0x73 ∷ 0x07 ∷ 0 ∷ d ++ zeros 94
   -- the string of the CDI as bytes, direct and chained, without and with a user secret
   pub strings : Strings
+  -- the query 10 01 and the calls around it: when it is whole, and the refusals in their order
+  pub gathering : (gathered (having []) 0x10 .report ≡ continues) × (gathered (having (0x10 ∷ [])) 0x01 .report ≡ whole)
+      × (gathered (having (0x10 ∷ 0x01 ∷ [])) 0x10 .report ≡ refused 47)
+  pub acting : (acted (having (0x10 ∷ [])) [] [] [] .report ≡ refused 47) × (acted (having (0x10 ∷ 0x01 ∷ [])) [] [] [] .report ≡ refused 3)
+      × (acted (having (0x10 ∷ 0x01 ∷ [])) (zeros 129) [] [] .report ≡ refused 4)
+      × (acted (having (0x10 ∷ 0x01 ∷ [])) (zeros 129) (0 ∷ []) [] .report ≡ refused 5)
+      × (acted (having (0x10 ∷ 0x01 ∷ [])) (zeros 129) (0 ∷ []) (zeros 8) .report ≡ continues)
+      × (acted (having (0x10 ∷ 0x01 ∷ [])) (zeros 129) (0 ∷ []) (zeros 8) .state ≡ having [])
+  -- a frame for endpoint 3 leaves nothing, and is not acted on; a bad header ends the session
+  pub foreign : (gathered (having (0x18 ∷ [])) 0x01 ≡ record { report = continues; state = having [] }) × (acted (having (0x18 ∷ 0x01 ∷ [])) [] [] [] .report ≡ refused 47)
+  pub ended-at : (gathered (having []) 0x90 .report ≡ stopped 22) × (gathered (having (0x90 ∷ [])) 0x10 .report ≡ refused 2)
+      × (acted (having (0x90 ∷ [])) [] [] [] .report ≡ refused 2)
   -- nothing of a session is left in the state after a stop or a start
   pub ends : (p : Phase) (m : ℕ) → (ended p m .incoming ≡ idle) × (ended p m .config .required ≡ zeros 32) × (ended p m .config .«measured_id» ≡ zeros 32)
       × (ended p m .config .udi ≡ zeros 8) × (ended p m .progress .uss ≡ zeros 32) × (ended p m .progress .phase ≡ p) × (ended p m .config .«ram_len» ≡ m)
