@@ -32,11 +32,12 @@ typeOf a b c d = recordAt (padded 256 (a ∷ b ∷ c ∷ d ∷ [])) .type
 abbrev pub masked : ℕ → ℕ → ℕ → ℕ → List ℕ
 masked a b c d = padded 256 (4 ∷ 0 ∷ 0 ∷ 0 ∷ a ∷ b ∷ c ∷ d ∷ [])
 
--- a head begun on a record of type 4 with one byte of RAM, after these bytes were gathered
+-- the state after these bytes were gathered
 abbrev pub gatheredFrom : State → List ℕ → State
 gatheredFrom s [] = s
 gatheredFrom s (b ∷ bs) = gatheredFrom (gathered s b .state) bs
 
+-- and that of a head begun on a record of type 4 with one byte of RAM
 abbrev pub having : List ℕ → State
 having bs = gatheredFrom (beginning (padded 256 (4 ∷ [])) (zeros 8) 1 .state) bs
 
