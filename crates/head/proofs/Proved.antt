@@ -9,11 +9,11 @@ use native.Mathlib.Omega.{arith}
 use lib.ListN.{length, drop}
 use lib.Seq.{drop-at}
 use lib.Dec.{eqb}
-use borrow.Author.Tests.{ne-eqb, eq-eqb, eqb-true, eqb-false, le-leb}
+use borrow.Author.Tests.{ne-eqb, eq-eqb, eqb-true, eqb-false}
 use Rattle.endian.specs.Lists.{zeros}
 use Rattle.endian.proofs.Cases.{impossible}
 use Rattle.protocol.specs.Commands.{lengthOk}
-use Rattle.head.specs.State.{isWhole, incomingOk, progressOk, inRange, live, idle, ended}
+use Rattle.head.specs.State.{isWhole, inRange, live, idle, ended}
 use Rattle.head.specs.Answers.{Report, refused, continues, whole, stopped, started, refusalNumber, stopNumber, reportOf, Gathering, Outcome}
 use Rattle.head.specs.Begin.{Beginning, ending, waitingWith, configOf, byType, beginning}
 use Rattle.head.specs.Gather.{gatherRefusal, withIncoming, gathered}
