@@ -64,8 +64,11 @@ static int begin(struct head *h, const uint8_t record[256], const uint8_t udi[8]
     uint32_t type = number(record);
 
     memset(h, 0, sizeof *h);
-    if (ram_len == 0 || ram_len > RAM_LEN)
+    if (ram_len == 0 || ram_len > RAM_LEN) {
+        h->phase = STOPPED;
+        h->ram_len = 1;
         return 7;
+    }
     h->ram_len = ram_len;
     if (type != 4 && type != 5) {
         h->phase = STOPPED;

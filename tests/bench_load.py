@@ -25,7 +25,7 @@ def frames(size):
 
 
 def play(size):
-    """The answer to the last byte of one load."""
+    """The answer to acting on the last frame of one load."""
     answer, head = begin(RECORD, UDI, RAM)
     room, ram, words = bytearray(129), bytearray(RAM), list(SECRET)
     for byte in b"".join(frames(size)):

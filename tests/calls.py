@@ -13,6 +13,7 @@ PROGRAM = Path(__file__).parent.parent / "target" / "bin" / "test_calls"
 SIZE = 320  # of a call
 
 ROOM, RAM, WORDS = 160, 301, 9  # what there is to lend from
+RAM_AND_WORDS, WORDS_ALONE = 1, 2  # what a call sets before it
 PHASES = ["waiting", "loading", "started", "stopped"]
 BEGIN, GATHER, HASH_BEGIN, HASH_UPDATE, HASH_FINISH, READ_HEADER, WRITE_HEADER, DERIVE, ACT = range(9)
 
@@ -51,8 +52,8 @@ class Calls:
         self.add(what, GATHER, call, ("answer", answer_bytes(answer)), ("state", state_bytes(head)))
 
     def act(self, what, lent, state, memory, answer, head, room, ram, words):
-        """lent: the lengths of room, RAM and words."""
-        call = struct.pack("<xBBHBB36s254s", lent[0], lent[2], lent[1], state is not None, memory is not None, memory or b"", state or b"")
+        """lent: the lengths of room, RAM and words; memory: RAM_AND_WORDS or WORDS_ALONE, and the words."""
+        call = struct.pack("<xBBHBB36s254s", lent[0], lent[2], lent[1], state is not None, *(memory or (0, b"")), state or b"")
         fields = [("answer", answer_bytes(answer)), ("reply length", struct.pack("<Q", answer.reply)), ("CDI", answer.cdi), ("digest", answer.digest)]
         fields += [("state", state_bytes(head)), ("room", bytes(room)), ("RAM", bytes(ram)), ("words", struct.pack("<9I", *words))]
         self.add(what, ACT, call, *fields)

@@ -73,7 +73,7 @@ class Session:
         self.head = head or waiting()
         self.ram = bytearray(b"\xaa" * calls.RAM)
         self.words = [*words, 0x5EED5EED][: calls.WORDS]
-        self.state, self.memory = calls.state_bytes(self.head), struct.pack("<9I", *self.words)
+        self.state, self.memory = calls.state_bytes(self.head), (calls.RAM_AND_WORDS, struct.pack("<9I", *self.words))
         self.answer = None
 
     def gather(self, byte):
@@ -92,6 +92,11 @@ class Session:
         self.made.act(what, (room, ram, words), self.state, self.memory, self.answer, self.head, lent[0] + rest, self.ram, self.words)
         self.state = self.memory = None
         return self
+
+    def change_words(self, words):
+        """Another device secret, from the next acting on."""
+        self.words[:8] = words
+        self.memory = (self.memory[0] if self.memory else calls.WORDS_ALONE), struct.pack("<9I", *self.words)
 
     def hear(self, byte, **lent):
         """Gathers a byte, and acts if a frame is whole with it."""
@@ -235,13 +240,13 @@ def begins(made):
 
 
 def last_block(header=0x13, got=128, **changes):
-    """A head that starts with the next byte, and then writes room, RAM and words: what a refusal must prevent."""
+    """A head whose last block is whole with the next byte; acting on it starts, and writes room, RAM and words: what a refusal must prevent."""
     changes = dict(phase="loading", size=100) | changes
     return waiting(frame=Frame(header, got, bytearray(block(0))), **changes)
 
 
 def last_of_query(**changes):
-    """A head that replies to a query with the next byte, 0x01."""
+    """A head in which a query is whole with the next byte, 0x01."""
     return waiting(frame=Frame(0x10, 1, bytearray(block(0))), **changes)
 
 
@@ -396,6 +401,8 @@ def in_any_order(rng, s, data):
             s.gather(data[at])
             at += s.answer.kind != "X"
         else:
+            if rng.random() < 0.3:
+                s.change_words([rng.randrange(2**32) for _ in range(8)])
             s.act(**random_loans(rng, RAM))
         after += s.head.ended()
         if at == len(data) or after > 6:
@@ -445,6 +452,8 @@ KINDS = {
     "act": ["W", "S", "X 1", "X 2", "X 47", "X 3", "X 4", "X 5", "F 23", "F 24", "F 25"],
     "random calls": ["verified starts"],
     "lists": ["waiting", "loading", "started", "stopped"],
+    "gather in lists": ["W", "A", "X 2", "X 47", "F 22"],
+    "act in lists": ["W", "S", "X 2", "X 47", "X 3", "X 4", "X 5", "F 23", "F 24", "F 25"],
 }
 
 
@@ -453,11 +462,15 @@ def main():
     for part in [begins, loads, digests, stops, refusals]:
         part(made)
     random_calls(made, seen)
+    lists = len(made.data)
     random_lists(made, seen)
     if what := made.play():
         print(f"scenarios: {what}")
         return 1
-    seen.update((CALLS[k], answer) for k, answer in made.answers())
+    for at, (k, answer) in enumerate(made.answers()):
+        seen[CALLS[k], answer] += 1
+        if at >= lists:
+            seen[f"{CALLS[k]} in lists", answer] += 1
     print(f"scenarios: {len(made.data)} calls")
     for name, kinds in KINDS.items():
         print(f"  {name}: " + ", ".join(f"{seen[name, k]} {k}" for k in kinds))

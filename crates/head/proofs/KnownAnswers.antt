@@ -44,6 +44,6 @@ known-answers = record {
   gathering = (refl, refl, refl);
   acting = (refl, refl, refl, refl, refl, refl);
   foreign = (refl, refl);
-  ended-at = (refl, refl, refl);
+  after-stop = (refl, refl, refl);
   ends = λ p m. (refl, refl, refl, refl, refl, refl, refl);
 }

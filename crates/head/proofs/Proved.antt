@@ -150,7 +150,7 @@ module _ (s : State) (b : ℕ) where
   gather-refused-when k h = rw (← (h .0), ne-eqb k 0 (h .1))
 
   abbrev GoesOn : Gathering → Type 0
-  GoesOn g = (g .report ≡ continues) ⊎ (g .report ≡ whole) → (g .state ≡ withIncoming s (g .state .incoming)) × (live (s .progress .phase) ≡ true)
+  GoesOn g = (g .report ≡ continues) ⊎ (g .report ≡ whole) → (g .state ≡ withIncoming s (g .state .incoming)) × (live (g .state .progress .phase) ≡ true)
 
   gather-goes-on : GoesOn (gathered s b)
   gather-goes-on =

@@ -13,7 +13,7 @@ use Rattle.head.specs.declared.State.{State}
 
 -- what a byte leads to
 pub data Step : Type 0 where
-  -- it is taken: the frame so far
+  -- it is taken: the frame so far, or none (`idle`) after the last byte of one for another endpoint
   taken : Incoming → Step
   -- a header with bit 7 or bit 2 set
   bad : Step

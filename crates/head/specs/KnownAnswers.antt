@@ -1,5 +1,6 @@
--- Known answers: loads, records, replies, calls, states and strings as literal bytes, beside document 01. No theorem about sessions can fix them,
--- since a head and a reading of the same bytes would share the mistake. The proof is `known-answers` in proofs/KnownAnswers.antt.
+-- Known answers: loads, records, replies, strings, calls and states as literal bytes, beside document 01. Of loads, records, replies and strings no
+-- theorem about sessions can fix them, since a head and a reading of the same bytes would share the mistake; the calls are examples of what `table`
+-- and `whole-when` of `session` say of all. The proof is `known-answers` in proofs/KnownAnswers.antt.
 use Prim.Native.Nat.{ℕ}
 use mathlib.Core.Path.{_≡_}
 use mathlib.Core.Bool.{true, false}
@@ -17,6 +18,7 @@ use Rattle.head.specs.Answers.{refused, continues, whole, stopped}
 use Rattle.head.specs.Begin.{beginning}
 use Rattle.head.specs.Gather.{gathered}
 use Rattle.head.specs.Act.{loaded, acted}
+use Rattle.head.specs.Theorems.{gatheredOn}
 use Rattle.head.specs.declared.Phase.{Phase}
 use Rattle.head.specs.declared.State.{State}
 
@@ -32,14 +34,9 @@ typeOf a b c d = recordAt (padded 256 (a ∷ b ∷ c ∷ d ∷ [])) .type
 abbrev pub masked : ℕ → ℕ → ℕ → ℕ → List ℕ
 masked a b c d = padded 256 (4 ∷ 0 ∷ 0 ∷ 0 ∷ a ∷ b ∷ c ∷ d ∷ [])
 
--- the state after these bytes were gathered
-abbrev pub gatheredFrom : State → List ℕ → State
-gatheredFrom s [] = s
-gatheredFrom s (b ∷ bs) = gatheredFrom (gathered s b .state) bs
-
--- and that of a head begun on a record of type 4 with one byte of RAM
+-- a head begun on a record of type 4 with one byte of RAM, after these bytes were gathered
 abbrev pub having : List ℕ → State
-having bs = gatheredFrom (beginning (padded 256 (4 ∷ [])) (zeros 8) 1 .state) bs
+having bs = gatheredOn bs (record { report = continues; state = beginning (padded 256 (4 ∷ [])) (zeros 8) 1 .state }) .state
 
 pub record KnownAnswers : Type 0 where
   -- flags 0, 1, 2 and 255, in byte 6: 0 means that there is no user secret, 1 that it is used, also one of zeros, and a load with another is
@@ -71,9 +68,11 @@ pub record KnownAnswers : Type 0 where
       × (acted (having (0x10 ∷ 0x01 ∷ [])) (zeros 129) (0 ∷ []) [] .report ≡ refused 5)
       × (acted (having (0x10 ∷ 0x01 ∷ [])) (zeros 129) (0 ∷ []) (zeros 8) .report ≡ continues)
       × (acted (having (0x10 ∷ 0x01 ∷ [])) (zeros 129) (0 ∷ []) (zeros 8) .state ≡ having [])
-  -- a frame for endpoint 3 leaves nothing, and is not acted on; a bad header ends the session
-  pub foreign : (gathered (having (0x18 ∷ [])) 0x01 ≡ record { report = continues; state = having [] }) × (acted (having (0x18 ∷ 0x01 ∷ [])) [] [] [] .report ≡ refused 47)
-  pub ended-at : (gathered (having []) 0x90 .report ≡ stopped 22) × (gathered (having (0x90 ∷ [])) 0x10 .report ≡ refused 2)
+  -- a frame for endpoint 3 leaves nothing, and there is nothing to act on
+  pub foreign : (gathered (having (0x18 ∷ [])) 0x01 ≡ record { report = continues; state = having [] })
+      × (acted (having (0x18 ∷ 0x01 ∷ [])) [] [] [] .report ≡ refused 47)
+  -- a bad header ends the session
+  pub after-stop : (gathered (having []) 0x90 .report ≡ stopped 22) × (gathered (having (0x90 ∷ [])) 0x10 .report ≡ refused 2)
       × (acted (having (0x90 ∷ [])) [] [] [] .report ≡ refused 2)
   -- nothing of a session is left in the state after a stop or a start
   pub ends : (p : Phase) (m : ℕ) → (ended p m .incoming ≡ idle) × (ended p m .config .required ≡ zeros 32) × (ended p m .config .«measured_id» ≡ zeros 32)

@@ -75,8 +75,8 @@ module _ (s : State) (b : ℕ) where
     pub goes-on : (afterGather .report ≡ continues) ⊎ (afterGather .report ≡ whole) → afterGather .state ≡ withIncoming s (afterGather .state .incoming)
     pub not-whole : afterGather .report ≡ continues → isWhole (afterGather .state .incoming) ≡ false
     pub is-whole : afterGather .report ≡ whole → isWhole (afterGather .state .incoming) ≡ true
-    -- and it had neither started nor stopped
-    pub lives : (afterGather .report ≡ continues) ⊎ (afterGather .report ≡ whole) → live (s .progress .phase) ≡ true
+    -- and it has neither started nor stopped
+    pub lives : (afterGather .report ≡ continues) ⊎ (afterGather .report ≡ whole) → live (afterGather .state .progress .phase) ≡ true
     -- 22 is the only stop, and the state is then the one of an end; no byte starts a program
     pub stops : (k : ℕ) → afterGather .report ≡ stopped k → (k ≡ 22) × (afterGather .state ≡ ended phase.Stopped (s .config .«ram_len»))
     pub no-start : (address size : ℕ) → afterGather .report ≡ started address size → ⊥

@@ -36,7 +36,7 @@ abbrev pub Reads : Session → Type 0
 Reads S = Starting (S .rec) (S .ramLen) (gatheredBytes (acceptedOf S))
 
 -- and the last block was acted on: the last accepted call is an acting. Where the bytes read as those of a start, the last of them made the last
--- block whole, and while it is whole only an acting is accepted (`table`): so this one is on that block
+-- block whole (`whole-when`), and while it is whole only an acting is accepted (`table`): so this one is on that block
 abbrev pub ActedOn : Session → Type 0
 ActedOn S = lastIs isActing (acceptedOf S) ≡ true
 
@@ -112,7 +112,7 @@ pub record StartOf (rec udi ram uds prog : List ℕ) (secret : Option (List ℕ)
   -- no call of it is refused
   pub none-refused : acceptedOf session ≡ allOf session
 
--- the bytes are whole good frames one after the other, and the last has endpoint 2
+-- the bytes are whole good frames one after the other, and the last has endpoint 2: the first fields of `Starting`, without the block
 pub record EndsWhole (received : List ℕ) : Type 0 where
   pub before : List (List ℕ)
   pub last : List ℕ
@@ -132,8 +132,8 @@ pub record VerifiedBoot : Type 0 where
   -- every call of the list answers a number of refusal exactly when the table says so
   pub table : (S : Session) (e : Entry) (i : Among e (allOf S)) (k : ℕ)
       → (reportIn e ≡ refused k) ↔ ((k ≡ refusalIn (hasEnded (i .before)) (frameIsWhole (i .before)) (S .ramLen) (callOf e)) × (k ≡ 0 → ⊥))
-  -- an accepted gathering answers whole exactly when the accepted bytes, its own the last of them, end in a whole frame with endpoint 2; one for
-  -- another endpoint never is whole
+  -- an accepted gathering answers whole exactly when the accepted bytes, its own the last of them, are whole good frames of which the last has
+  -- endpoint 2; so the last byte of a frame for another endpoint is never answered with whole
   pub whole-when : (S : Session) (b : ℕ) (g : Gathering) (i : Among (gathers b g) (acceptedOf S))
       → (g .report ≡ whole) ↔ EndsWhole (gatheredBytes (i .before) ++ b ∷ [])
   -- every program of 1 byte to the RAM's length starts, if the record allows it, with any user secret or none, whatever RAM and UDS hold

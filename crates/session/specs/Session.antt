@@ -120,7 +120,7 @@ abbrev pub hasEnded : List Entry → Bool
 hasEnded [] = false
 hasEnded (e ∷ es) = isEnd (reportIn e) || hasEnded es
 
--- the last of these calls is such a one
+-- p holds of the last of these calls; false if there is none
 abbrev pub lastIs : (Entry → Bool) → List Entry → Bool
 lastIs p [] = false
 lastIs p (e ∷ []) = p e

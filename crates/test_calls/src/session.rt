@@ -67,7 +67,8 @@ fn next(k: Kept, answer: Answer, state: State) -> Kept {
     Kept { state, ram, words }
 }
 
-// What is kept, with the state of this call where byte 6 is not 0, and where byte 7 is not 0 with 0xaa in RAM and the words of this call.
+// What is kept, with the state of this call where byte 6 is not 0, and with the words of this call where byte 7 is not 0; where it is 1, with
+// 0xaa in RAM too.
 fn set(k: Kept, c: [u8; 320]) -> Kept {
     let mut state = k.state;
     let mut ram = k.ram;
@@ -75,8 +76,10 @@ fn set(k: Kept, c: [u8; 320]) -> Kept {
     if c[6] != 0 {
         state = image::state(c);
     }
-    if c[7] != 0 {
+    if c[7] == 1 {
         ram = [0xaa; 301];
+    }
+    if c[7] != 0 {
         words = words_in(c);
     }
     Kept { state, ram, words }
