@@ -59,20 +59,21 @@ static uint32_t blocks_for(uint32_t size)
     return size / 127 + (size % 127 != 0);
 }
 
-static int begin(struct head *h, const uint8_t record[256], const uint8_t udi[8], size_t ram_len)
+/* Nothing is in its flash: types 0 to 3 find a size of 0. */
+static int begin(struct head *h, const uint8_t record[256], const uint8_t udi[8], size_t ram_len, size_t words)
 {
     uint32_t type = number(record);
 
     memset(h, 0, sizeof *h);
-    if (ram_len == 0 || ram_len > RAM_LEN) {
+    if (words != 8 || ram_len == 0 || ram_len > RAM_LEN) {
         h->phase = STOPPED;
         h->ram_len = 1;
-        return 7;
+        return words != 8 ? 5 : 7;
     }
     h->ram_len = ram_len;
     if (type != 4 && type != 5) {
         h->phase = STOPPED;
-        return type >= 6 ? 20 : 21;
+        return type >= 6 ? 20 : 26;
     }
     h->verify = type == 5;
     h->chained = record[4] & 1;
@@ -296,7 +297,7 @@ int main(void)
         uint32_t uds[8];
         for (int i = 0; i < 8; i++)
             uds[i] = 0x13121110;
-        begin(&h, record, udi, RAM_LEN);
+        begin(&h, record, udi, RAM_LEN, 8);
         for (size_t i = 0; i < n; i++)
             if (gather(&h, frames[i]) == IS_WHOLE)
                 act(&h, room, sizeof room, ram, sizeof ram, uds, 8);

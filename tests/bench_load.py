@@ -8,7 +8,7 @@ import sys
 from pathlib import Path
 
 import stored
-from head import begin, number
+from head import EMPTY_SLOTS, ZEROS, begin, number
 
 STDIN = Path(__file__).parent.parent / "crates" / "bench_load" / "stdin"
 RAM = 131072
@@ -26,8 +26,8 @@ def frames(size):
 
 def play(size):
     """The answer to acting on the last frame of one load."""
-    answer, head = begin(RECORD, UDI, RAM)
     room, ram, words = bytearray(129), bytearray(RAM), list(SECRET)
+    answer, head = begin(RECORD, UDI, EMPTY_SLOTS, ZEROS, ram, words)
     for byte in b"".join(frames(size)):
         answer = head.hear(byte, room, ram, words)
     return answer

@@ -5,14 +5,15 @@ A `Calls` gathers calls with what an independent program says of each; `play` ru
 """
 import struct
 import subprocess
+from dataclasses import dataclass
 from pathlib import Path
 
 from head import ADDRESS
 
 PROGRAM = Path(__file__).parent.parent / "target" / "bin" / "test_calls"
-SIZE = 320  # of a call
+SIZE = 320  # of a call, without what is behind it
 
-ROOM, RAM, WORDS = 160, 301, 9  # what there is to lend from
+ROOM, WORDS = 160, 9  # what there is to lend from
 RAM_AND_WORDS, WORDS_ALONE = 1, 2  # what a call sets before it
 PHASES = ["waiting", "loading", "started", "stopped"]
 BEGIN, GATHER, HASH_BEGIN, HASH_UPDATE, HASH_FINISH, READ_HEADER, WRITE_HEADER, DERIVE, ACT = range(9)
@@ -29,34 +30,68 @@ def answer_bytes(answer):
     return struct.pack("<BII", ord(answer.kind), answer.number, ADDRESS if answer.kind == "S" else 0)
 
 
+def made_fields(answer, head):
+    """What begin and act give besides the answer."""
+    return [("CDI", answer.cdi), ("digest", answer.digest), ("state", state_bytes(head))]
+
+
+def lent_fields(ram, words):
+    return [("RAM", bytes(ram)), ("words", struct.pack("<9I", *words))]
+
+
+@dataclass
+class Memory:
+    """What a call finds in the words, and in RAM unless that is to stay."""
+
+    words: list
+    ram: bytes | None = None
+
+
+def memory_bytes(memory):
+    """Byte 7 of a call and the words behind it."""
+    if memory is None:
+        return bytes(37)
+    return struct.pack("<B9I", WORDS_ALONE if memory.ram is None else RAM_AND_WORDS, *memory.words)
+
+
+def ram_bytes(memory):
+    """What is behind a call that sets RAM."""
+    return b"" if memory is None or memory.ram is None else bytes(memory.ram)
+
+
 class Calls:
     def __init__(self):
         self.data = []
         self.wanted = []  # for each call: what it is, and what must be written, as pairs of a name and bytes
 
-    def add(self, what, kind, call, *fields):
-        self.data.append((bytes([kind]) + call).ljust(SIZE, b"\0"))
+    def add(self, what, kind, call, *fields, behind=b""):
+        self.data.append((bytes([kind]) + call).ljust(SIZE, b"\0") + behind)
         self.wanted.append((what, fields))
 
     # ---- the head
 
-    def begin(self, what, record, udi, ram, answer, head):
-        call = struct.pack("<xxxHxx257sxxxQ8s", len(record), bytes(record), ram, udi)
-        self.add(what, BEGIN, call, ("answer", answer_bytes(answer)), ("state", state_bytes(head)))
+    # state and memory are what a call sets before it, or nothing to go on with what is there: a state's bytes, and a Memory. lent are the
+    # lengths of what is lent. What comes after them is what there must be after the call.
 
-    # state and memory are bytes for a call to set before it, or nothing to go on with what is there. What comes after them is what there must
-    # be after the call.
+    def begin(self, what, lent, memory, record, udi, slots, built_in, answer, head, ram, words):
+        """lent: RAM and words; both are set before."""
+        parts = [record, *(slot.flash for slot in slots)]
+        call = struct.pack("<xxBxxx", lent[1]) + memory_bytes(memory)
+        call += struct.pack("<8s32sQQ", udi, built_in, *(slot.size for slot in slots)) + struct.pack("<QQQ", *map(len, parts))
+        call += struct.pack("<176xQQ", len(ram), lent[0])
+        behind = b"".join(parts) + ram_bytes(memory)
+        self.add(what, BEGIN, call, ("answer", answer_bytes(answer)), *made_fields(answer, head), *lent_fields(ram, words), behind=behind)
 
     def gather(self, what, byte, state, answer, head):
         call = struct.pack("<BxxxxBx36x254s", byte, state is not None, state or b"")
         self.add(what, GATHER, call, ("answer", answer_bytes(answer)), ("state", state_bytes(head)))
 
     def act(self, what, lent, state, memory, answer, head, room, ram, words):
-        """lent: the lengths of room, RAM and words; memory: RAM_AND_WORDS or WORDS_ALONE, and the words."""
-        call = struct.pack("<xBBHBB36s254s", lent[0], lent[2], lent[1], state is not None, *(memory or (0, b"")), state or b"")
-        fields = [("answer", answer_bytes(answer)), ("reply length", struct.pack("<Q", answer.reply)), ("CDI", answer.cdi), ("digest", answer.digest)]
-        fields += [("state", state_bytes(head)), ("room", bytes(room)), ("RAM", bytes(ram)), ("words", struct.pack("<9I", *words))]
-        self.add(what, ACT, call, *fields)
+        """lent: room, RAM and words."""
+        call = struct.pack("<xBBxxB", lent[0], lent[2], state is not None) + memory_bytes(memory)
+        call += struct.pack("<254sxxQQ", state or b"", len(ram), lent[1])
+        fields = [("answer", answer_bytes(answer)), ("reply length", struct.pack("<Q", answer.reply)), *made_fields(answer, head)]
+        self.add(what, ACT, call, *fields, ("room", bytes(room)), *lent_fields(ram, words), behind=ram_bytes(memory))
 
     # ---- a hash in parts, headers and the CDI
 

@@ -1,5 +1,5 @@
-"""Document 01's head with the two calls of change request 8, written again from the papers: the second implementation that the tests hold
-the loader to.
+"""Document 01's head with the two calls of change request 8 and the flash of change request 3, written again from the papers: the second
+implementation that the tests hold the loader to.
 
 Nothing here is taken from the loader. BLAKE2s is hashlib's.
 """
@@ -11,8 +11,7 @@ FIRMWARE = 2
 ADDRESS = 0x40000000
 
 RECORD = 256
-TYPE_CLIENT = 4
-TYPE_CLIENT_VER = 5
+TYPE_FLASH0, TYPE_FLASH1, TYPE_FLASH0_VER, TYPE_FLASH1_VER, TYPE_CLIENT, TYPE_CLIENT_VER = range(6)
 RAM_MOST = 131072
 
 
@@ -69,7 +68,7 @@ class Head:
 
     ram: int
     udi: bytes = bytes(8)
-    verify: bool = False  # type 5, otherwise type 4
+    verify: bool = False  # the program must have the required digest
     required: bytes = ZEROS
     chained: bool = False  # the mask has RESET_SEED
     measured_id: bytes = ZEROS
@@ -199,7 +198,23 @@ class Head:
         if self.block < (self.size + 126) // 127:
             return Answer("W", reply=self.reply(f, room, 0x06, 4, b"\0"))
         digest = blake2s(ram[: self.size])
-        reply = self.reply(f, room, 0x07, 128, b"\0" + digest)
+        return self.finish(digest, words, self.reply(f, room, 0x07, 128, b"\0" + digest))
+
+    # ---- a program in flash
+
+    def boot(self, slot, ram, words):
+        """Puts the front part of a slot in RAM; it starts or not."""
+        if not 1 <= slot.size <= min(len(slot.flash), len(ram)):
+            return self.stop(26)
+        program = slot.flash[: slot.size]
+        ram[: slot.size] = program
+        self.size = slot.size
+        return self.finish(blake2s(program), words)
+
+    # ---- a program in RAM, that was measured
+
+    def finish(self, digest, words, reply=0):
+        """It starts, if its digest is allowed."""
         if self.verify and self.required != digest:
             return self.stop(25, reply)
         answer = Answer("S", self.size, reply, self.cdi(digest, words), digest)
@@ -216,17 +231,31 @@ class Head:
 # ---- begin
 
 
-def begin(record, udi, ram):
-    """The answer, and a head; after a refusal or a stop it is one that has stopped."""
-    if len(record) != RECORD:
-        return Answer("X", 6), Head(1, phase="stopped")
-    if not 1 <= ram <= RAM_MOST:
-        return Answer("X", 7), Head(1, phase="stopped")
+@dataclass
+class Slot:
+    """A slot of flash, and the size that the program in it is said to have."""
+
+    flash: bytes = b""
+    size: int = 0
+
+
+EMPTY_SLOTS = (Slot(), Slot())
+
+
+def begin(record, udi, slots, built_in, ram, words):
+    """The answer, and a head; after any but W it is one that has ended. RAM and words are lent: a program from flash changes them."""
+    refused = first({5: len(words) != 8, 6: len(record) != RECORD, 7: not 1 <= len(ram) <= RAM_MOST})
+    if refused:
+        return Answer("X", refused), Head(1, phase="stopped")
     kind = number(record[0:4])
-    if kind not in (TYPE_CLIENT, TYPE_CLIENT_VER):
-        return Answer("F", 20 if kind >= 6 else 21), Head(ram, phase="stopped")
-    chained = number(record[4:8]) & 1 == 1
-    return Answer("W"), Head(ram, udi, kind == TYPE_CLIENT_VER, record[8:40], chained, record[40:72])
+    verify = kind not in (TYPE_FLASH1, TYPE_CLIENT)
+    required = built_in if kind == TYPE_FLASH0 else record[8:40]
+    head = Head(len(ram), udi, verify, required, number(record[4:8]) & 1 == 1, record[40:72])
+    if kind > TYPE_CLIENT_VER:
+        return head.stop(20), head
+    if kind in (TYPE_CLIENT, TYPE_CLIENT_VER):
+        return Answer("W"), head
+    return head.boot(slots[kind in (TYPE_FLASH1, TYPE_FLASH1_VER)], ram, words), head
 
 
 # ---- the session printer
@@ -241,8 +270,8 @@ def headlog(data):
         return ["E 1"], len(data)
     record, uds, udi = data[:256], data[256:288], data[288:296]
     words = [number(uds[i : i + 4]) for i in range(0, 32, 4)]
-    answer, head = begin(record, udi, PRINTER_RAM)
     room, ram = bytearray(129), bytearray(PRINTER_RAM)
+    answer, head = begin(record, udi, EMPTY_SLOTS, ZEROS, ram, words)
     lines = []
     at = PREFIX
     while answer.kind == "W" and at < len(data):

@@ -25,7 +25,7 @@ import server
 import simulate
 from head import RAM_MOST, blake2s
 from pty_peer import TTY, Terminal, answering, echo, play, silent
-from simulate import Head, child, ended_by, expect, shown, started
+from simulate import Head, child, ended_by, expect, shown, started, written
 
 TOP = Path(__file__).resolve().parent.parent
 LOAD = TOP / "load"
@@ -52,12 +52,6 @@ STATUSES = {
 
 def loaded(program):
     return f"loaded {len(program)} bytes, digest {blake2s(program).hex()}\n"
-
-
-def written(folder, name, data):
-    path = folder / name
-    path.write_bytes(data)
-    return path
 
 
 def ran(process):
@@ -471,8 +465,9 @@ def readme(folder):
     head = Head()
     expect("its ./load", "".join(run(head.name, TOP / "sample" / "program.bin")[1:]), said)
     head.ends(0, simulated.removeprefix("/dev/pts/3\n"))
+    section = text.split("## Loading a head")[1].split("\n## ")[0]
     for number in range(10):
-        expect(f"status {number}", len(re.findall(rf"^\| {number} \| .*$", text.split("## A red lamp")[0], re.M)), 1)
+        expect(f"status {number}", len(re.findall(rf"^\| {number} \| .*$", section, re.M)), 1)
 
 
 def usage(folder):

@@ -172,8 +172,9 @@ def answering(change=lambda k, reply: reply):
     """A head of type 4 that sends change(k, reply) for its reply number k, from 0."""
 
     def peer(line):
-        _, device = head.begin(head.TYPE_CLIENT.to_bytes(4, "little").ljust(head.RECORD, b"\0"), bytes(8), head.RAM_MOST)
         room, memory, words = bytearray(129), bytearray(head.RAM_MOST), [0] * 8
+        record = head.TYPE_CLIENT.to_bytes(4, "little").ljust(head.RECORD, b"\0")
+        _, device = head.begin(record, bytes(8), head.EMPTY_SLOTS, head.ZEROS, memory, words)
         replies = 0
         while data := line.some():
             for byte in data:

@@ -25,7 +25,7 @@ EXAMPLE = b"\x04" + bytes(295) + b"\x10\x01"
 EXAMPLE_LINES = ["R 1202746b31206d6b64660100000000000000000000000000000000000000000000", "W 2"]
 
 # What must come up, so that agreement says something.
-ENDS = ["S", "W", "E 1"] + [f"F {k}" for k in range(20, 26)]
+ENDS = ["S", "W", "E 1"] + [f"F {k}" for k in (20, 22, 23, 24, 25, 26)]
 STARTS = [f"type {t}, {d}, {u}" for t in (4, 5) for d in ("direct", "chained") for u in ("no USS", "USS")]
 REPLIES = {"0274": "name", "0900": "UDI", "0400": "load taken", "0401": "load not taken", "0600": "block", "0700": "last block"}
 EDGES = [f"start of size {n}" for n in SIZES + LARGE_SIZES] + [f"stop at type {t}" for t in STOPPING_TYPES]
@@ -75,7 +75,7 @@ def end_kinds(s, last):
         return ["S", s.start_kind(), f"start of size {len(s.program)}", *(f"start after {what}" for what in s.not_taken())]
     if last == "F 23" and s.flag in BAD_FLAGS:
         return [last, "block after a bad flag"]
-    if last in ("F 20", "F 21"):
+    if last in ("F 20", "F 26"):
         return [last, f"stop at type {s.type}"]
     return [last if last[0] in "EF" else last[0]]
 

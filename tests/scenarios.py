@@ -1,7 +1,7 @@
 #!/usr/bin/env python3
-"""Begin, gather and act against the head of head.py, call by call: sessions, lists of calls in random order, states made by hand, also out
-of range, and everything lent with other lengths than it must have. The program `test_calls` makes each call; its answer, the next state,
-room, RAM and words must be the same, in accepted and refused calls alike.
+"""Begin, gather and act against the head of head.py, call by call: programs from flash, sessions, lists of calls in random order, states made
+by hand, also out of range, and everything lent with other lengths than it must have. The program `test_calls` makes each call; its answer,
+CDI and digest, the next state, room, RAM and words must be the same, in accepted and refused calls alike.
 
     scenarios.py                  plays them all
     scenarios.py --store          writes the stored input and output of `test_calls`: document 01's example
@@ -16,18 +16,22 @@ from copy import deepcopy
 from pathlib import Path
 
 import calls
-from head import RAM_MOST, ZEROS, Frame, Head, begin, blake2s
+from head import EMPTY_SLOTS, RAM_MOST, ZEROS, Frame, Head, Slot, begin, blake2s
 
 STORED = Path(__file__).parent.parent / "crates" / "test_calls"
 
 # What every scenario has in common.
 RAM = 300
+ALL_RAM = RAM + 1  # what there is to lend from
 UDS = [int.from_bytes(bytes(range(16 + 4 * i, 20 + 4 * i)), "little") for i in range(8)]
 UDI = bytes(range(0xD0, 0xD8))
 REQUIRED = b"\xc3" * 32
 MEASURED_ID = b"\x3c" * 32
 PROGRAM = bytes((7 * i + 3) % 256 for i in range(3 * 127))
 COUNTING = bytes(range(0xA0, 0xC0))
+FLASH = [bytes((11 * i + 5) % 256 for i in range(320)), bytes((13 * i + 9) % 256 for i in range(320))]
+SLOTS = (Slot(FLASH[0], 200), Slot(FLASH[1], 170))
+RANDOM_BEGINS = 3000
 RANDOM_CALLS = 60000
 RANDOM_LISTS = 200
 
@@ -67,14 +71,24 @@ def blocks():
 class Session:
     """A head with its memory, of which the fronts are lent. Every call is added to the calls."""
 
-    def __init__(self, what, made, head=None, words=UDS):
+    def __init__(self, what, made, head=None, words=UDS, ram=ALL_RAM):
         self.what = what
         self.made = made
         self.head = head or waiting()
-        self.ram = bytearray(b"\xaa" * calls.RAM)
-        self.words = [*words, 0x5EED5EED][: calls.WORDS]
-        self.state, self.memory = calls.state_bytes(self.head), (calls.RAM_AND_WORDS, struct.pack("<9I", *self.words))
+        self.ram = bytearray(b"\xaa" * ram)
+        self.words = [*words, 0x5EED5EED]
+        self.state, self.memory = calls.state_bytes(self.head), calls.Memory([*self.words], bytes(self.ram))
         self.answer = None
+
+    def begin(self, record, udi, slots, built_in, ram, words):
+        """The call that comes before all others; the numbers say how much is lent."""
+        lent = [self.ram[:ram], self.words[:words]]
+        self.answer, self.head = begin(record, udi, slots, built_in, *lent)
+        self.ram[:ram], self.words[:words] = lent
+        given = (ram, words), self.memory, record, udi, slots, built_in
+        self.made.begin(self.what, *given, self.answer, self.head, self.ram, self.words)
+        self.state = self.memory = None
+        return self
 
     def gather(self, byte):
         self.answer = self.head.gather(byte)
@@ -96,7 +110,7 @@ class Session:
     def change_words(self, words):
         """Another device secret, from the next acting on."""
         self.words[:8] = words
-        self.memory = (self.memory[0] if self.memory else calls.WORDS_ALONE), struct.pack("<9I", *self.words)
+        self.memory = calls.Memory([*self.words], self.memory.ram if self.memory else None)
 
     def hear(self, byte, **lent):
         """Gathers a byte, and acts if a frame is whole with it."""
@@ -209,31 +223,128 @@ def stops(made):
 # ---- begin
 
 
-def begun(made, what, record, udi=UDI, ram=RAM, words=UDS):
+def begun(made, what, record, udi=UDI, slots=SLOTS, built_in=REQUIRED, ram=RAM, words=8, uds=UDS):
     """A session that begin opens, whatever it answers."""
-    answer, head = begin(record, udi, ram)
-    made.begin(what, record, udi, ram, answer, head)
-    s = Session(what, made, head, words)
-    s.state = None
-    return s
+    return Session(what, made, words=uds, ram=max(ALL_RAM, ram)).begin(record, udi, slots, built_in, ram, words)
 
 
-def begin_with(made, what, record, ram=RAM, udi=UDI):
+def begin_with(made, what, *given, **lent):
     """Begin, and both calls on the state that it hands back."""
-    begun(made, what, record, udi, ram).act().gather(0x10)
+    return begun(made, f"begin: {what}", *given, **lent).act().gather(0x10)
+
+
+def record_of(kind, mask=0, required=REQUIRED):
+    return struct.pack("<II32s32s184s", kind, mask, required, MEASURED_ID, PROGRAM)
+
+
+def digest_of(slots, kind):
+    """The digest of the program that a type loads."""
+    slot = slots[kind % 2]
+    return blake2s(slot.flash[: slot.size])
 
 
 def begins(made):
-    record = b"\4" + bytes(256)
-    for n, ram in [(0, RAM), (255, RAM), (257, RAM), (256, 0), (256, 131073), (256, 2**32 + RAM), (255, 0), (256, 1), (256, 131072), (256, RAM)]:
-        begin_with(made, f"begin: record {n}, RAM {ram}", record[:n], ram)
-    for kind in [0, 1, 2, 3, 4, 5, 6, 2**32 - 1, 0x104, 0x10005, 0x1000000]:
-        begin_with(made, f"begin: type {kind}", kind.to_bytes(4, "little") + bytes(252))
+    types(made)
+    flash_sizes(made)
+    most_ram(made)
+    flash_digests(made)
+    masks(made)
+    begin_loans(made)
+
+
+def begin_right(made, what, kind, slots, ram=RAM):
+    """With the digest of the program that the type loads, built in and in the record."""
+    right = digest_of(slots, kind)
+    begin_with(made, f"type {kind}, {what}", record_of(kind, 0, right), slots=slots, built_in=right, ram=ram)
+
+
+def types(made):
+    for kind in [*range(8), 0x100, 0x104, 0x10005, 0x1000000, 0x2000003, 2**31, 2**32 - 1]:
+        begin_right(made, "two programs", kind, SLOTS)
+        begin_right(made, "empty slots", kind, EMPTY_SLOTS)
+
+
+# ---- programs from flash
+
+
+def near(length):
+    """Sizes near the limits, which are the slot's length and the RAM's, and some that would be near them if a size were cut."""
+    sizes = {0, 1, length - 1, length, length + 1, RAM - 1, RAM, RAM + 1, 2**16 + 1, 2**32, 2**32 + 1, 2**32 + length, 2**64 - 1}
+    return sorted(sizes - {-1})
+
+
+def slots_with(kind, slot):
+    """Of the slots the one that the type loads is this one; the other has a program that fits."""
+    return [SLOTS[0], slot] if kind % 2 else [slot, SLOTS[1]]
+
+
+def flash_sizes(made):
+    """Slots that are shorter and longer than RAM; from type 4 on they are not looked at."""
+    for kind, length in itertools.product([*range(7), 0x102, 2**32 - 1], [0, 1, 2, 200, RAM - 1, RAM, RAM + 1, 320]):
+        for size in near(length):
+            begin_right(made, f"size {size}, slot {length}", kind, slots_with(kind, Slot(FLASH[kind % 2][:length], size)))
+
+
+def most_ram(made):
+    flash = random.Random(2).randbytes(RAM_MOST + 1)
+    sizes = [1, RAM_MOST - 1, RAM_MOST, RAM_MOST + 1]
+    for kind, length, size in itertools.product(range(4), [RAM_MOST, RAM_MOST + 1], sizes):
+        begin_right(made, f"size {size}, slot {length}, most RAM", kind, slots_with(kind, Slot(flash[:length], size)), RAM_MOST)
+
+
+def flash_digests(made):
+    """Every pair of a built-in and a recorded digest: each type tests one of them, or none."""
+    whole = [blake2s(flash) for flash in FLASH]
+    for kind in range(4):
+        right = digest_of(SLOTS, kind)
+        last_bit = right[:31] + bytes([right[31] ^ 0x01])
+        first_bit = bytes([right[0] ^ 0x80]) + right[1:]
+        digests = [right, last_bit, first_bit, digest_of(SLOTS, kind + 1), whole[kind % 2], MEASURED_ID, ZEROS]
+        for mask, (j, built_in), (k, required) in itertools.product([0, 1], enumerate(digests), enumerate(digests)):
+            begin_with(made, f"type {kind}, mask {mask}, digests {j} and {k}", record_of(kind, mask, required), built_in=built_in)
+
+
+def masks(made):
+    """Bit 0 counts, for a start and for a client's session, and no other."""
     rng = random.Random(1)
-    for kind in [4, 5]:
-        for mask in [0, 1, 2, 0x80000001, 0xFFFFFFFE]:
-            record = kind.to_bytes(4, "little") + mask.to_bytes(4, "little") + rng.randbytes(248)
-            begin_with(made, f"begin: type {kind}, mask {mask:x}", record, RAM, rng.randbytes(8))
+    for kind, mask in itertools.product(range(6), [0, 1, 2, 3, 0x100, 0x80000000, 0x80000001, 0xFFFFFFFE, 0xFFFFFFFF]):
+        right, uds = digest_of(SLOTS, kind), [rng.getrandbits(32) for _ in range(8)]
+        record = struct.pack("<II32s216s", kind, mask, right, rng.randbytes(216))
+        begin_with(made, f"type {kind}, mask {mask:x}", record, rng.randbytes(8), built_in=right, uds=uds)
+
+
+def begin_loans(made):
+    """Every set of refusals 5, 6 and 7, of begins that would start, wait and stop; the most RAM and the least are taken."""
+    for kind, words, length, ram in itertools.product(range(7), [7, 8, 9], [255, 256, 257], [0, 1, RAM, RAM_MOST, RAM_MOST + 1]):
+        slots = [Slot(FLASH[0], 1), Slot(FLASH[1], 1)]
+        right = digest_of(slots, kind)
+        record = (record_of(kind, 0, right) + b"\0")[:length]
+        what = f"type {kind}, record {length}, RAM {ram}, words {words}"
+        begin_with(made, what, record, slots=slots, built_in=right, ram=ram, words=words)
+    for words, length in [(0, 256), (8, 0), (0, 0)]:
+        begin_with(made, f"record {length}, words {words}", record_of(4)[:length], words=words)
+
+
+def random_slot(rng, ram):
+    """With a size that mostly fits."""
+    flash = rng.randbytes(rng.choice([0, 1, ram, ram + 1, *rng.choices(range(320), k=12)]))
+    most = min(len(flash), ram)
+    return Slot(flash, rng.choice([rng.randint(min(1, most), most)] * 8 + [0, most, most + 1, len(flash), 2**32 + most, rng.getrandbits(64)]))
+
+
+def random_begins(made, seen):
+    rng = random.Random(9)
+    for k in range(RANDOM_BEGINS):
+        kind, ram = rng.choice([0, 1, 2, 3] * 5 + [4, 5, 6, rng.getrandbits(32)]), rng.choice([RAM, rng.randint(1, RAM)])
+        slots = [random_slot(rng, ram) for _ in range(2)]
+        digests = [digest_of(slots, kind)] * 4 + [digest_of(slots, kind + 1), rng.randbytes(32)]
+        mask, built_in, required = rng.choice([0, 1, rng.getrandbits(32)]), rng.choice(digests), rng.choice(digests)
+        record = struct.pack("<II32s217s", kind, mask, required, rng.randbytes(217))[: rng.choice([256] * 30 + [255, 257])]
+        lent = dict(ram=rng.choice([ram] * 30 + [0]), words=rng.choice([8] * 30 + [7, 9]))
+        uds = [rng.getrandbits(32) for _ in range(8)]
+        s = begun(made, f"random begin {k}", record, rng.randbytes(8), slots, built_in, uds=uds, **lent)
+        seen["random begins", f"{s.answer.kind} of type {kind}"] += 1
+        s.act(**random_loans(rng, ram)).gather(rng.randrange(256))
 
 
 # ---- refused calls
@@ -295,7 +406,7 @@ def borders(made):
 
 def loans(made):
     """Every length of what is lent, to an acting that starts."""
-    for name, most in [("room", calls.ROOM), ("ram", calls.RAM), ("words", calls.WORDS)]:
+    for name, most in [("room", calls.ROOM), ("ram", ALL_RAM), ("words", calls.WORDS)]:
         for n in range(most + 1):
             Session(f"{name} {n}", made, last_block()).hear(0x01, **{name: n})
 
@@ -415,7 +526,7 @@ def random_lists(made, seen):
         size, kind, mask = rng.choice([1, 127, 128, 254, 255, 300]), rng.choice([4, 5]), rng.choice([0, 1])
         required = rng.choice([blake2s(PROGRAM[:size])] * 3 + [rng.randbytes(32)])
         record = struct.pack("<II32s216s", kind, mask, required, rng.randbytes(216))
-        s = begun(made, f"list {k}", record, rng.randbytes(8), words=[rng.randrange(2**32) for _ in range(8)])
+        s = begun(made, f"list {k}", record, rng.randbytes(8), uds=[rng.randrange(2**32) for _ in range(8)])
         in_any_order(rng, s, random_data(rng, size))
         seen["lists", s.head.phase] += 1
 
@@ -425,7 +536,7 @@ def random_lists(made, seen):
 
 def example():
     made = calls.Calls()
-    begun(made, "example", b"\4" + bytes(255), bytes(8), words=[0] * 8).send(b"\x10\x01")
+    begun(made, "example", b"\4" + bytes(255), bytes(8), EMPTY_SLOTS, ZEROS, uds=[0] * 8).send(b"\x10\x01")
     return made
 
 
@@ -447,9 +558,10 @@ def store():
 # What must come up, so that agreement says something.
 CALLS = {calls.BEGIN: "begin", calls.GATHER: "gather", calls.ACT: "act"}
 KINDS = {
-    "begin": ["W", "X 6", "X 7", "F 20", "F 21"],
+    "begin": ["W", "S", "X 5", "X 6", "X 7", "F 20", "F 25", "F 26"],
     "gather": ["W", "A", "X 1", "X 2", "X 47", "F 22"],
     "act": ["W", "S", "X 1", "X 2", "X 47", "X 3", "X 4", "X 5", "F 23", "F 24", "F 25"],
+    "random begins": [f"{answer} of type {kind}" for kind in range(4) for answer in "SF"],
     "random calls": ["verified starts"],
     "lists": ["waiting", "loading", "started", "stopped"],
     "gather in lists": ["W", "A", "X 2", "X 47", "F 22"],
@@ -461,6 +573,7 @@ def main():
     made, seen = calls.Calls(), Counter()
     for part in [begins, loads, digests, stops, refusals]:
         part(made)
+    random_begins(made, seen)
     random_calls(made, seen)
     lists = len(made.data)
     random_lists(made, seen)

@@ -1,11 +1,12 @@
 #!/usr/bin/env python3
-"""Loads ./simulate over real pseudo-terminals with the independent client (server.py), and compares every reply, every line that it shows,
-the CDI by hashlib and the exit status. The cases run beside each other.
+"""Loads ./simulate over real pseudo-terminals with the independent client (server.py), and from its flash, and compares every reply, every
+line that it shows, the CDI by hashlib and the exit status. The cases run beside each other.
 """
 import concurrent.futures
 import itertools
 import os
 import random
+import re
 import signal
 import subprocess
 import sys
@@ -23,6 +24,7 @@ TOP = Path(__file__).resolve().parent.parent
 SIMULATE = TOP / "simulate"
 SECONDS = 30
 SIZES = [1, 127, 128, 254, 255, 32768, RAM_MOST]
+FLASH_SIZES = [1, 64, 32768, RAM_MOST]
 
 # README's table of stops
 STOPS = {
@@ -30,6 +32,7 @@ STOPS = {
     23: "stopped 23: the command is not allowed now, or unknown\n",
     24: "stopped 24: the command has another body length\n",
     25: "stopped 25: the program has not the required digest\n",
+    26: "stopped 26: the size of the program in flash is 0, over the slot or over the RAM\n",
 }
 NAME = (b"\x10\x01", server.whole(0, b"\x02tk1 mkdf\x01", 32))
 UDI = (b"\x30\x08", server.whole(1, b"\x09", 32))
@@ -85,6 +88,12 @@ class Head:
         expect("exit status, standard output and error", (self.process.returncode, shown, got[1].decode()), (status, out, err))
 
 
+def written(folder, name, data):
+    path = folder / name
+    path.write_bytes(data)
+    return path
+
+
 def shown(program, end):
     return f"waiting\nloading {len(program)} bytes\n{server.blocks(len(program))} blocks\n{end}"
 
@@ -104,9 +113,7 @@ def load(folder, seed, size, kind, chained, with_secret):
     measured_id, secret = rng.randbytes(32) if chained else None, rng.randbytes(32) if with_secret else None
     options = ["--uds", uds.hex()] + (["--measured-id", measured_id.hex()] if chained else [])
     if kind == 5:
-        path = folder / f"program {seed}"
-        path.write_bytes(program)
-        options += ["--require", path] + (["--type", 5] if seed % 2 else [])
+        options += ["--require", written(folder, f"program {seed}", program)] + (["--type", 5] if seed % 2 else [])
     elif seed % 2:
         options += ["--type", 4]
     head = Head(*options)
@@ -155,9 +162,7 @@ def never_read(folder):
 
 
 def other_digest(folder):
-    path = folder / "required"
-    path.write_bytes(b"the required program")
-    head = Head("--require", path)
+    head = Head("--require", written(folder, "required", b"the required program"))
     head.load(b"another program")
     head.ends(25, shown(b"another program", STOPS[25]))
 
@@ -172,6 +177,74 @@ def stops_while_loading(folder):
     for k in range(2):
         head.ask(server.frame(bytes(300), 0, None, k), server.reply(300, 0, k, 0, b""))
     head.stops(b"\x10\x01", 23, "waiting\nloading 300 bytes\n" + STOPS[23])
+
+
+# ---- programs from flash
+
+
+def boots(status, line, *options):
+    """Starts or stops at once, with this line behind the terminal's name."""
+    done = subprocess.run([SIMULATE, *map(str, options)], stdin=subprocess.DEVNULL, capture_output=True, timeout=SECONDS, cwd=TOP)
+    name, _, rest = done.stdout.decode().partition("\n")
+    got = (name[:9], rest, done.returncode, done.stderr)
+    expect(f"terminal, line, exit status and standard error of {options}", got, ("/dev/pts/", line, status, b""))
+
+
+def flash(folder, seed, size, kind, chained, both):
+    """A start. The other slot is empty, or has another program."""
+    rng = random.Random(seed)
+    program, uds, measured_id = rng.randbytes(size), rng.randbytes(32), rng.randbytes(32) if chained else None
+    path = written(folder, f"flash {seed}", program)
+    options = ["--type", kind, f"--slot{kind % 2}", path, "--uds", uds.hex()]
+    options += ["--measured-id", measured_id.hex()] if chained else []
+    options += ["--require", path] if kind != 1 else []
+    options += [f"--slot{1 - kind % 2}", written(folder, f"other {seed}", rng.randbytes(size))] if both else []
+    boots(0, started(program, uds, measured_id), *options)
+
+
+def flash_other_digest(folder):
+    """One bit is another, the required program is the one in the other slot, or it is the front part of the one in the slot."""
+    program = b"a program in flash"
+    path, other = written(folder, "in flash", program), written(folder, "one bit", b"A" + program[1:])
+    front = written(folder, "front", program[:-1])
+    for kind in (0, 2, 3):
+        slots = [f"--slot{kind % 2}", path, f"--slot{1 - kind % 2}", other]
+        boots(25, STOPS[25], "--type", kind, "--require", other, *slots)
+        boots(25, STOPS[25], "--type", kind, "--require", front, *slots, "--measured-id", blake2s(program).hex())
+
+
+def flash_size(folder):
+    """No size that fits: no program, one of no bytes, one over the RAM. The other slot has one that fits."""
+    good, empty = written(folder, "fits", b"x" * 300), written(folder, "no bytes", b"")
+    long, longer = written(folder, "too long", b"x" * (RAM_MOST + 1)), written(folder, "far too long", b"x" * 10**6)
+    for kind in range(4):
+        own, other = f"--slot{kind % 2}", f"--slot{1 - kind % 2}"
+        for path, options in ((None, []), (empty, []), (long, []), (longer, []), (good, ["--ram", 299])):
+            require = [] if kind == 1 else ["--require", path or empty]
+            boots(26, STOPS[26], "--type", kind, other, good, *require, *options, *([own, path] if path else []))
+
+
+def flash_in_all_ram(folder):
+    program = b"y" * 300
+    path = written(folder, "all RAM", program)
+    for kind in range(4):
+        boots(0, started(program), "--type", kind, "--ram", 300, f"--slot{kind % 2}", path, *([] if kind == 1 else ["--require", path]))
+
+
+def flash_on_terminal(folder):
+    """The start is one line there too."""
+    path, screen = written(folder, "on a terminal", b"z" * 300), Terminal()
+    done = subprocess.run([SIMULATE, "--type", "1", "--slot1", path], stdin=subprocess.DEVNULL, stdout=screen.slave, timeout=SECONDS)
+    expect("exit status and lines", (done.returncode, screen.line.rest().decode().partition("\n")[2]), (0, started(b"z" * 300)))
+
+
+def client_with_flash(folder):
+    """Types 4 and 5 do not look at the slots."""
+    program, path = b"w" * 300, written(folder, "from a server", b"w" * 300)
+    for options in ([], ["--require", path]):
+        head = Head("--slot0", path, "--slot1", SIMULATE, *options)
+        head.load(program)
+        head.ends(0, shown(program, started(program)))
 
 
 # ---- what a terminal shows
@@ -210,8 +283,17 @@ def terminal_stop(folder):
 BAD = [
     "--type 5",
     "--type 4 --require $0",
+    "--type 0",
+    "--type 2",
     "--type 3",
+    "--type 1 --require $0",
+    "--type 6",
+    "--type -1",
     "--type x",
+    "--slot0 'no such file'",
+    "--slot1 /",
+    "--slot1",
+    "--slot $0",
     "--require 'no such file'",
     "--require /",
     "--require",
@@ -244,6 +326,14 @@ def readme(folder):
     for number, line in STOPS.items():
         words = line.removeprefix(f"stopped {number}: ").rstrip("\n")
         expect(f"rows of stop {number}", len([row for row in rows if row.startswith(f"| {number} | {words} | ")]), 1)
+
+
+def readme_flash(folder):
+    """README's example of a program from flash."""
+    found = re.findall(r"^    \$ ./simulate (--.*)\n    /dev/pts/.*\n((?:    .*\n)+)", (TOP / "README.md").read_text(), re.M)
+    expect("examples", len(found), 1)
+    options, lines = found[0]
+    boots(0, lines.replace("    ", ""), *options.split())
 
 
 def usage(folder):
@@ -304,6 +394,15 @@ def dies(folder):
     head.ends(1, "", "simulate: the program died\n")
 
 
+def flash_cases():
+    kinds = itertools.product(FLASH_SIZES, range(4), (False, True), (False, True))
+    for seed, (size, kind, chained, both) in enumerate(kinds):
+        what = f"{size} bytes from flash, type {kind}, {'chained' if chained else 'direct'}, {'two programs' if both else 'one program'}"
+        yield what, lambda folder, given=(seed, size, kind, chained, both): flash(folder, *given)
+    for case in (flash_other_digest, flash_size, flash_in_all_ram, flash_on_terminal, client_with_flash):
+        yield case.__name__, case
+
+
 def cases():
     kinds = itertools.product(SIZES, (4, 5), (False, True), (False, True))
     for seed, (size, kind, chained, secret) in enumerate(kinds):
@@ -311,7 +410,8 @@ def cases():
         yield what, lambda folder, given=(seed, size, kind, chained, secret): load(folder, *given)
     for case in (no_room, opened_often, read_late, never_read, other_digest, stops_while_loading, terminal_start, terminal_stop):
         yield case.__name__, case
-    for case in (readme, usage, elsewhere, dies):
+    yield from flash_cases()
+    for case in (readme, readme_flash, usage, elsewhere, dies):
         yield case.__name__, case
     yield "not built", not_built("simulate")
     yield "SIGTERM", ended(signal.SIGTERM)

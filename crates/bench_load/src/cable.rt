@@ -2,6 +2,7 @@
 use super::frames;
 use loader::Acted;
 use loader::Answer;
+use loader::Phase;
 use loader::State;
 
 // What the loads came to.
@@ -23,7 +24,7 @@ pub fn load_often(size: u32, times: u32) -> Loaded {
 fn repeat(bytes: &[u8], times: u32, ram: &mut [u8]) -> Loaded {
     let mut left = times;
     let mut received: u64 = 0;
-    let mut last = going_on(begun());
+    let mut last = going_on(head::ended(Phase::Stopped, 1));
     while 0 < left {
         let next = session(bytes, ram);
         last = next;
@@ -37,14 +38,15 @@ fn repeat(bytes: &[u8], times: u32, ram: &mut [u8]) -> Loaded {
 fn session(bytes: &[u8], ram: &mut [u8]) -> Acted {
     let mut room = [0u8; 129];
     let mut words = [0x13121110u32; 8];
-    play(begun(), bytes, &mut room, ram, &mut words)
+    let state = begun(ram, &mut words);
+    play(state, bytes, &mut room, ram, &mut words)
 }
 
-// A head begun on a record of type 4.
-fn begun() -> State {
+// A head begun on a record of type 4, with nothing in its flash.
+fn begun(ram: &mut [u8], words: &mut [u32]) -> State {
     let mut record = [0u8; 256];
     record[0] = 4;
-    let b = loader::begin(&record, [0xd0; 8], 131072);
+    let b = loader::begin(&record, [0xd0; 8], b"", 0, b"", 0, [0; 32], ram, words);
     b.state
 }
 

@@ -14,7 +14,7 @@ use Rattle.head.specs.Answers.{refusalNumber, stopNumber}
 use Rattle.head.specs.declared.Progress.{Progress}
 use Rattle.head.specs.declared.Refusal.{Refusal}
 use Rattle.head.specs.declared.Stop.{Stop}
-use Rattle.head.specs.declared.Stop.the-variants.{UnknownType, NoFlash, HeaderBit, Command, BodyLength, Digest}
+use Rattle.head.specs.declared.Stop.the-variants.{UnknownType, HeaderBit, Command, BodyLength, Digest, ProgramSize}
 use Rattle.head.specs.declared.Answer.{Answer}
 use Rattle.head.specs.declared.Answer.the-variants.{Refused, Continue, Whole, Stopped, Started}
 use Rattle.display.specs.Shown.{loadingLine, blockText, allBlocks, startLine, wordsOf, stopLine, refusalLine}
@@ -38,19 +38,19 @@ four a b c d k h = rw (length-append (a ++ b ++ c) d, length-append (a ++ b) c, 
 five : (a b c d e : List ℕ) (k : ℕ) → length a + length b + length c + length d + length e ≤ k → length (a ++ b ++ c ++ d ++ e) ≤ k
 five a b c d e k h = rw (length-append (a ++ b ++ c ++ d) e, length-append (a ++ b ++ c) d, length-append (a ++ b) c, length-append a b) h
 
-words : (s : Stop) → length (wordsOf s) ≤ 60
+words : (s : Stop) → length (wordsOf s) ≤ 70
 words UnknownType = omega arith
-words NoFlash = omega arith
 words HeaderBit = omega arith
 words Command = omega arith
 words BodyLength = omega arith
 words Digest = omega arith
+words ProgramSize = omega arith
 
-stop-long : (s : Stop) → length (stopLine s) ≤ 100
+stop-long : (s : Stop) → length (stopLine s) ≤ 110
 unfolding stopLine
 stop-long s =
     let d = texts .few (stopNumber s) in
-    five (ascii "stopped ") (decimalOf (stopNumber s)) (ascii ": ") (wordsOf s) (ascii "\n") 100 (omega (arith, words s))
+    five (ascii "stopped ") (decimalOf (stopNumber s)) (ascii ": ") (wordsOf s) (ascii "\n") 110 (omega (arith, words s))
 
 refusal-long : (r : Refusal) → length (refusalLine r) ≤ 100
 refusal-long r = three (ascii "refused ") (decimalOf (refusalNumber r)) (ascii "\n") 100 (omega (arith, texts .few (refusalNumber r)))
@@ -89,12 +89,12 @@ before-long terminal p s = go (eqb (stopNumber s) 25) terminal (eqb (p .block) 0
     go false true false = omega arith
     go false false b = omega arith
 
-begin-fits : (a : Answer) → length (beginText a) ≤ 512
-begin-fits Continue = omega arith
-begin-fits Whole = omega arith
-begin-fits (Refused r) = omega (arith, refusal-long r)
-begin-fits (Stopped s) = omega (arith, stop-long s)
-begin-fits (Started address n) = omega arith
+begin-fits : (a : Answer) (cdi : List ℕ) → length cdi ≡ 32 → length (beginText a cdi) ≤ 512
+begin-fits Continue cdi h = omega arith
+begin-fits Whole cdi h = omega arith
+begin-fits (Refused r) cdi h = omega (arith, refusal-long r)
+begin-fits (Stopped s) cdi h = omega (arith, stop-long s)
+begin-fits (Started address n) cdi h = omega (arith, start-long n cdi h)
 
 fits : (terminal : Bool) (p : Progress) (a : Answer) (q : Progress) (cdi : List ℕ) → length cdi ≡ 32
     → length (receivedText terminal p a q cdi) ≤ 512
@@ -110,19 +110,21 @@ fits terminal p (Started address n) q cdi h =
 pub display : Display
 unfolding decimalOf startLine stopLine
 display = record {
-  begins = refl;
+  begins = λ cdi. refl;
   loads = refl;
   block = refl;
   start = λ q. refl;
   block-elsewhere = refl;
   start-elsewhere = λ q. refl;
+  start-from-flash = refl;
   quiet = same-progress;
-  stop-20 = refl;
-  stop-21 = refl;
+  stop-20 = λ cdi. refl;
   stop-22 = λ p q cdi. refl;
   stop-23 = λ p q cdi. refl;
   stop-24 = λ p q cdi. refl;
   stop-25 = λ q cdi. refl;
+  stop-25-from-flash = λ cdi. refl;
+  stop-26 = λ cdi. refl;
   stop-within = λ q cdi. refl;
   begin-fits = begin-fits;
   fits = fits;

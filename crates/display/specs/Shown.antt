@@ -9,7 +9,7 @@ use Rattle.text.specs.Text.{ascii, hexOf, decimalOf}
 use Rattle.head.specs.Answers.{refusalNumber, stopNumber}
 use Rattle.head.specs.declared.Refusal.{Refusal}
 use Rattle.head.specs.declared.Stop.{Stop}
-use Rattle.head.specs.declared.Stop.the-variants.{UnknownType, NoFlash, HeaderBit, Command, BodyLength, Digest}
+use Rattle.head.specs.declared.Stop.the-variants.{UnknownType, HeaderBit, Command, BodyLength, Digest, ProgramSize}
 use Rattle.head.specs.declared.Answer.{Answer}
 use Rattle.head.specs.declared.Answer.the-variants.{Refused, Continue, Whole, Stopped, Started}
 use Rattle.head.specs.declared.Progress.{Progress}
@@ -33,11 +33,11 @@ startLine n cdi = ascii "started, " ++ decimalOf n ++ ascii " bytes, CDI " ++ he
 -- the words of README's table of stops
 abbrev pub wordsOf : Stop → List ℕ
 wordsOf UnknownType = ascii "the record's type is 6 or above"
-wordsOf NoFlash = ascii "the record's type is 0 to 3, and no flash is fitted"
 wordsOf HeaderBit = ascii "bit 7 or bit 2 of a header is set"
 wordsOf Command = ascii "the command is not allowed now, or unknown"
 wordsOf BodyLength = ascii "the command has another body length"
 wordsOf Digest = ascii "the program has not the required digest"
+wordsOf ProgramSize = ascii "the size of the program in flash is 0, over the slot or over the RAM"
 
 unfoldable pub stopLine : Stop → List ℕ
 stopLine s = ascii "stopped " ++ decimalOf (stopNumber s) ++ ascii ": " ++ wordsOf s ++ ascii "\n"
@@ -46,13 +46,13 @@ stopLine s = ascii "stopped " ++ decimalOf (stopNumber s) ++ ascii ": " ++ words
 abbrev pub refusalLine : Refusal → List ℕ
 refusalLine r = ascii "refused " ++ decimalOf (refusalNumber r) ++ ascii "\n"
 
--- begin starts no program and makes no frame whole, so there is no line for these
-abbrev pub beginText : Answer → List ℕ
-beginText Continue = ascii "waiting\n"
-beginText Whole = []
-beginText (Refused r) = refusalLine r
-beginText (Stopped s) = stopLine s
-beginText (Started address n) = []
+-- what begin shows: by its answer and the CDI. A program from flash starts without a block, and begin makes no frame whole
+abbrev pub beginText : Answer → List ℕ → List ℕ
+beginText Continue cdi = ascii "waiting\n"
+beginText Whole cdi = []
+beginText (Refused r) cdi = refusalLine r
+beginText (Stopped s) cdi = stopLine s
+beginText (Started address n) cdi = startLine n cdi
 
 -- a byte after which the session goes on: a size that is new is that of a load, a number that is new that of the next block
 abbrev pub progressText : Bool → Progress → Progress → List ℕ

@@ -11,19 +11,16 @@ use head::Refusal;
 use head::Stop;
 use text::Text;
 
-// What is shown of begin's answer.
-pub fn begun(answer: Answer) -> Text
-    ensures { λ r. ⌜ r ≡ textOf (beginText answer) ⌝ }
+// What is shown of begin's answer, with the CDI of a start.
+pub fn begun(answer: Answer, cdi: [u8; 32]) -> Text
+    ensures { λ r. ⌜ r ≡ textOf (beginText answer cdi) ⌝ }
 {
     match answer {
         Answer::Continue => text::put_all(text::empty(), b"waiting\n"),
         Answer::Whole => text::empty(),
         Answer::Refused(why) => refusal_line(why),
         Answer::Stopped(why) => stop_line(text::empty(), why),
-        Answer::Started {
-            address: _,
-            size: _,
-        } => text::empty(),
+        Answer::Started { address: _, size } => start_line(text::empty(), size, cdi),
     }
 }
 
@@ -147,11 +144,14 @@ fn put_words(t: Text, why: Stop) -> Text
 {
     match why {
         Stop::UnknownType => text::put_all(t, b"the record's type is 6 or above"),
-        Stop::NoFlash => text::put_all(t, b"the record's type is 0 to 3, and no flash is fitted"),
         Stop::HeaderBit => text::put_all(t, b"bit 7 or bit 2 of a header is set"),
         Stop::Command => text::put_all(t, b"the command is not allowed now, or unknown"),
         Stop::BodyLength => text::put_all(t, b"the command has another body length"),
         Stop::Digest => text::put_all(t, b"the program has not the required digest"),
+        Stop::ProgramSize => text::put_all(
+            t,
+            b"the size of the program in flash is 0, over the slot or over the RAM",
+        ),
     }
 }
 

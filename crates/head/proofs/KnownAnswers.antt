@@ -5,16 +5,19 @@ use mathlib.Core.List.{List, _∷_, _++_}
 use lib.ListN.{length, take, replicate}
 use lib.Seq.{take-append-add}
 use Rattle.framing.specs.Header.{headerAt, headerByte}
-use Rattle.endian.specs.Endian.{word}
+use Rattle.endian.specs.Endian.{word, firstBytes}
+use Rattle.rfc7693.specs.Rfc7693.{rotr, words, iv, sigma, added, xorRotated, G, workVector, round, rounds, F, input, blockAt, blockCount, leading, compressions, compressed, initial, blake2s}
 use Rattle.protocol.specs.Commands.{loadIn}
-use Rattle.protocol.specs.Replies.{replyHeader, sent, nameReply, udiReply, loadReply, blockReply, digestReply}
+use Rattle.protocol.specs.Replies.{putIn, replyHeader, sent, nameReply, udiReply, loadReply, blockReply, digestReply}
 use Rattle.record.specs.Record.{recordAt}
+use Rattle.cdi.specs.Cdi.{cdiString, cdiOf}
 use Rattle.cdi.proofs.Proved.{cdi}
 use Rattle.head.specs.State.{inRange, ended}
-use Rattle.head.specs.Begin.{beginning}
+use Rattle.head.specs.Start.{starting, decided}
+use Rattle.head.specs.Begin.{fromFlash, beginning}
 use Rattle.head.specs.Gather.{byteStep, gatherRefusal, gathered}
 use Rattle.head.specs.Act.{actRefusal, acted}
-use Rattle.head.specs.KnownAnswers.{KnownAnswers}
+use Rattle.head.specs.KnownAnswers.{Begins, KnownAnswers}
 
 -- the first n + k bytes of p, which has n, and of what follows
 front : (p z : List ℕ) (n k : ℕ) → length p ≡ n → take (n + k) (p ++ z) ≡ p ++ take k z
@@ -27,6 +30,18 @@ udi-bytes u l = rw l (ap (λ (x : List ℕ). 0x32 ∷ 0x09 ∷ 0 ∷ x) (front u
 digest-bytes : (d : List ℕ) → length d ≡ 32 → sent (digestReply 0x73 d) ≡ 0x73 ∷ 0x07 ∷ 0 ∷ d ++ replicate 94 0
 unfolding digestReply replyHeader headerByte
 digest-bytes d l = rw l (ap (λ (x : List ℕ). 0x73 ∷ 0x07 ∷ 0 ∷ x) (front d (replicate 94 0) 32 94 l))
+
+-- computed from the slots, the digests and CDIs among them
+begins : Begins
+unfolding beginning fromFlash decided starting ended putIn recordAt word cdiString cdiOf rotr words firstBytes iv sigma added xorRotated G workVector round rounds F input blockAt blockCount leading compressions compressed initial blake2s
+begins = record {
+  start = refl;
+  chained = refl;
+  types = (refl, refl, refl, refl, refl, refl, refl, refl);
+  stop = refl;
+  sizes = (refl, refl, refl, refl, refl);
+  refusals = (refl, refl, refl);
+}
 
 pub known-answers : KnownAnswers
 unfolding loadIn word recordAt nameReply loadReply blockReply replyHeader headerByte beginning headerAt byteStep inRange gatherRefusal gathered actRefusal acted ended
@@ -41,6 +56,7 @@ known-answers = record {
   block = refl;
   digest = digest-bytes;
   strings = cdi .strings;
+  begins = begins;
   gathering = (refl, refl, refl);
   acting = (refl, refl, refl, refl, refl, refl);
   foreign = (refl, refl);

@@ -1,39 +1,40 @@
--- The theorem of specs/Theorems.antt. Each claim about a call is shown for each way that it can go (`by-gather`, `by-act`).
+-- The theorem of specs/Theorems.antt. Each claim about a call is shown for each way that it can go (`by-begin`, `by-gather`, `by-act`).
 use Prim.Native.Nat.{ℕ, _+_, _≤_}
 use mathlib.Core.Bool.{Bool, true, false, not, cond}
 use mathlib.Core.Path.{_≡_, refl, sym, ap, _∙_}
-use mathlib.Core.Logic.{_⊎_, ⊎-elim}
-use mathlib.Core.Option.{Option, none, some}
+use mathlib.Core.Logic.{_⊎_, inl, inr, ⊎-elim}
 use mathlib.Core.List.{List, []}
 use native.Mathlib.Omega.{arith}
-use lib.ListN.{length, drop}
-use lib.Seq.{drop-at}
+use lib.ListN.{length, take, drop, length-append, length-drop}
+use lib.Seq.{take-at, drop-at, length-take-le}
 use lib.Dec.{eqb}
 use borrow.Author.Tests.{ne-eqb, eq-eqb, eqb-true, eqb-false}
 use Rattle.endian.specs.Lists.{zeros}
 use Rattle.endian.proofs.Cases.{impossible}
+use Rattle.rfc7693.specs.Rfc7693.{blake2s}
 use Rattle.protocol.specs.Commands.{lengthOk}
 use Rattle.head.specs.State.{isWhole, inRange, live, idle, ended}
-use Rattle.head.specs.Answers.{Report, refused, continues, whole, stopped, started, refusalNumber, stopNumber, reportOf, Gathering, Outcome}
-use Rattle.head.specs.Begin.{Beginning, ending, waitingWith, configOf, byType, beginning}
+use Rattle.head.specs.Answers.{Report, refused, continues, whole, stopped, started, refusalNumber, stopNumber, reportOf, Gathering, Result, Outcome}
+use Rattle.head.specs.Start.{unstarted, ending, starting}
+use Rattle.head.specs.Begin.{Slot, Flash, programIn, fits as fitting, beginRefusal, beginning}
 use Rattle.head.specs.Gather.{gatherRefusal, withIncoming, gathered}
-use Rattle.head.specs.Act.{starting, actRefusal, refusing, acted}
-use Rattle.head.specs.Theorems.{HeadTheorems, withUds, withCdi}
-use Rattle.head.proofs.Ranges.{by-test, range-facts, in-range, ram-ok}
+use Rattle.head.specs.Act.{actRefusal, refusing, acted}
+use Rattle.head.specs.Theorems.{HeadTheorems, withUds, withCdi, changed}
+use Rattle.head.proofs.Ranges.{never, by-test, fit-facts, range-facts, in-range, ram-ok}
 use Rattle.head.proofs.Admitted.{act-admitted}
-use Rattle.head.proofs.Ways.{by-gather, Writes, called, by-words, act-called, by-act}
-use Rattle.record.specs.Record.{recordAt}
+use Rattle.head.proofs.Ways.{begunWith, by-secret, begin-called, by-begin, by-gather, Writes, called, by-words, act-called, by-act}
 use Rattle.protocol.proofs.Proved.{protocol}
 use Rattle.protocol.specs.Replies.{sent, digestReply, putIn}
 use Rattle.protocol.specs.declared.Reply.{Reply}
 use Rattle.head.proofs.Frames.{frame-whole, passed-over}
+use Rattle.head.specs.declared.Phase.{Phase}
 use Rattle.head.specs.declared.Phase.the-variants as phase
 use Rattle.head.specs.declared.Incoming.{Incoming}
 use Rattle.head.specs.declared.State.{State}
 use Rattle.head.specs.declared.Refusal.{Refusal}
 use Rattle.head.specs.declared.Refusal.the-variants.{StateRange, Ended, ReplyRoom, RamLength, SecretLength, RecordLength, RamSize, OutOfTurn}
 use Rattle.head.specs.declared.Stop.{Stop}
-use Rattle.head.specs.declared.Stop.the-variants.{UnknownType, NoFlash, HeaderBit, Command, BodyLength, Digest}
+use Rattle.head.specs.declared.Stop.the-variants.{UnknownType, HeaderBit, Command, BodyLength, Digest, ProgramSize}
 use Rattle.head.specs.declared.Answer.{Answer}
 use Rattle.head.specs.declared.Answer.the-variants.{Refused, Continue, Whole, Stopped, Started}
 
@@ -62,18 +63,18 @@ refusal-back OutOfTurn = refl
 abbrev stopOf : ℕ → Stop
 stopOf k =
     cond (eqb k 20) UnknownType
-    (cond (eqb k 21) NoFlash
     (cond (eqb k 22) HeaderBit
     (cond (eqb k 23) Command
-    (cond (eqb k 24) BodyLength Digest))))
+    (cond (eqb k 24) BodyLength
+    (cond (eqb k 25) Digest ProgramSize))))
 
 stop-back : (x : Stop) → stopOf (stopNumber x) ≡ x
 stop-back UnknownType = refl
-stop-back NoFlash = refl
 stop-back HeaderBit = refl
 stop-back Command = refl
 stop-back BodyLength = refl
 stop-back Digest = refl
+stop-back ProgramSize = refl
 
 same-refusal : (x y : Refusal) → refusalNumber x ≡ refusalNumber y → x ≡ y
 same-refusal x y e = sym (refusal-back x) ∙ ap refusalOf e ∙ refusal-back y
@@ -413,7 +414,7 @@ module _ (s : State) (room ram uds : List ℕ) where
 
   abbrev Unread : (List ℕ → Outcome) → Type 0
   Unread f =
-      ((a n : ℕ) → f uds .report ≡ started a n → ⊥) → (f uds .uds ≡ uds) × ((other : List ℕ) → f other ≡ withUds (f uds) other)
+      ((a n : ℕ) → f uds .report ≡ started a n → ⊥) → (f uds .uds ≡ uds) × ((other : List ℕ) → f other ≡ changed (withUds other) (f uds))
 
   unread : Unread (called (due) s room ram)
   unfolding starting
@@ -430,12 +431,12 @@ module _ (s : State) (room ram uds : List ℕ) where
 
   secret : ((a n : ℕ) → out .report ≡ started a n → ⊥)
       → (out .uds ≡ uds)
-      × ((other : List ℕ) → length other ≡ length uds → acted s room ram other ≡ withUds out other)
+      × ((other : List ℕ) → length other ≡ length uds → acted s room ram other ≡ changed (withUds other) out)
   unfolding acted
   secret r = let u = unread r in (u .0, λ o e. act-called s room ram (length uds) o e ∙ u .1 o)
 
   abbrev OnlyCdi : ℕ → ℕ → (List ℕ → Outcome) → Type 0
-  OnlyCdi a n f = f uds .report ≡ started a n → (other : List ℕ) → f other ≡ withCdi (f uds) (f other .cdi)
+  OnlyCdi a n f = f uds .report ≡ started a n → (other : List ℕ) → f other ≡ changed (withCdi (f other .cdi)) (f uds)
 
   only-cdi : (a n : ℕ) → OnlyCdi a n (called (due) s room ram)
   unfolding starting
@@ -451,43 +452,19 @@ module _ (s : State) (room ram uds : List ℕ) where
       })
 
   identity : (a n : ℕ) → out .report ≡ started a n → (other : List ℕ) → length other ≡ length uds
-      → acted s room ram other ≡ withCdi out (acted s room ram other .cdi)
+      → acted s room ram other ≡ changed (withCdi (acted s room ram other .cdi)) out
   unfolding acted
   identity a n r o e =
       let c = act-called s room ram (length uds) o e in
-      c ∙ only-cdi a n r o ∙ ap (λ (x : Outcome). withCdi out (x .cdi)) (sym c)
+      c ∙ only-cdi a n r o ∙ ap (λ (x : Outcome). changed (withCdi (x .cdi)) out) (sym c)
 
--- ---- begin
+-- ---- after an end
 
--- a begin goes one of three ways
-by-begin : (P : Beginning → Type 0) (bytes udi : List ℕ) (m : ℕ) → ((k : ℕ) → P (ending (refused k) 1))
-    → (lengthOk m ≡ true → (k : ℕ) → P (ending (stopped k) m)) → (lengthOk m ≡ true → (v : Bool) → P (waitingWith (configOf v (recordAt bytes) udi m)))
-    → P (beginning bytes udi m)
-unfolding beginning
-by-begin P bytes udi m f g h = go (eqb (length bytes) 256) (lengthOk m) refl
-  where
-    by-type : (t : Option ℕ) → lengthOk m ≡ true → P (byType t (recordAt bytes) udi m)
-    by-type (some n) e = by-test P (eqb n 4) _ _ (λ x. h e false) (λ x. by-test P (eqb n 5) _ _ (λ y. h e true) (λ y. g e 21))
-    by-type none e = g e 20
-
-    go : (x y : Bool) → lengthOk m ≡ y
-        → P (cond (eqb (cond (not x) 6 (cond (not y) 7 0)) 0) (byType (recordAt bytes .type) (recordAt bytes) udi m) (ending (refused (cond (not x) 6 (cond (not y) 7 0))) 1))
-    go true true e = by-type (recordAt bytes .type) e
-    go true false e = f 7
-    go false y e = f 6
-
-begun : (bytes udi : List ℕ) (m : ℕ) → inRange (beginning bytes udi m .state) ≡ true
-begun bytes udi m =
-    by-begin (λ (x : Beginning). inRange (x .state) ≡ true) bytes udi m (λ k. stopped-ok 1 refl) (λ e k. stopped-ok m e) (λ e v. in-range _ e refl refl)
-
-after-stop : (b m : ℕ) → lengthOk m ≡ true → gathered (ended phase.Stopped m) b ≡ record { report = refused 2; state = ended phase.Stopped m }
-unfolding gathered gatherRefusal ended
-after-stop b m e = rw (stopped-ok m e)
-
-act-after-stop : (room ram uds : List ℕ) (m : ℕ) → lengthOk m ≡ true
-    → acted (ended phase.Stopped m) room ram uds ≡ refusing 2 (ended phase.Stopped m) room ram uds
-unfolding acted actRefusal ended
-act-after-stop room ram uds m e = rw (stopped-ok m e)
+ended-ok : (p : Phase) (m : ℕ) → live p ≡ false → lengthOk m ≡ true → inRange (ended p m) ≡ true
+ended-ok phase.Started m n r = started-ok m r
+ended-ok phase.Stopped m n r = stopped-ok m r
+ended-ok phase.Waiting m n r = never n
+ended-ok phase.Loading m n r = never n
 
 -- every call is refused with 2
 abbrev Over : State → Type 0
@@ -495,17 +472,225 @@ Over s =
     ((b : ℕ) → gathered s b ≡ record { report = refused 2; state = s })
     × ((room ram uds : List ℕ) → acted s room ram uds ≡ refusing 2 s room ram uds)
 
-over : (m : ℕ) → lengthOk m ≡ true → Over (ended phase.Stopped m)
-over m e = (λ b. after-stop b m e, λ room ram uds. act-after-stop room ram uds m e)
+over : (p : Phase) (m : ℕ) → live p ≡ false → lengthOk m ≡ true → Over (ended p m)
+unfolding gathered gatherRefusal acted actRefusal ended
+over p m n e = let r = ended-ok p m n e in (λ b. rw (r, n), λ room ram uds. rw (r, n))
 
-no-session : (bytes udi : List ℕ) (m : ℕ) → (beginning bytes udi m .report ≡ continues → ⊥) → Over (beginning bytes udi m .state)
-no-session bytes udi m =
-    by-begin (λ (x : Beginning). (x .report ≡ continues → ⊥) → Over (x .state)) bytes udi m (λ k n. over 1 refl) (λ e k n. over m e)
-    (λ e v n. absurd (n refl))
+-- ---- begin
+
+-- a program in front of RAM
+module _ (ram : List ℕ) (x : Slot) (h : fitting (x .size) (length (x .bytes)) (length ram) ≡ true) where
+  fit : (1 ≤ x .size) × (x .size ≤ length (x .bytes)) × (x .size ≤ length ram)
+  fit = fit-facts (x .size) (length (x .bytes)) (length ram) h
+
+  program-length : length (programIn x) ≡ x .size
+  program-length = length-take-le (x .size) (x .bytes) (fit .1)
+
+  pub front-is : take (x .size) (putIn ram (programIn x)) ≡ programIn x
+  unfolding putIn
+  front-is = take-at (programIn x) (drop (length (programIn x)) ram) (x .size) program-length
+
+  pub beyond-is : drop (x .size) (putIn ram (programIn x)) ≡ drop (x .size) ram
+  unfolding putIn
+  beyond-is = drop-at (programIn x) (drop (length (programIn x)) ram) (x .size) program-length ∙ ap (λ (k : ℕ). drop k ram) program-length
+
+  pub put-length : length (putIn ram (programIn x)) ≡ length ram
+  unfolding putIn
+  put-length = let f = fit .2 in let l = program-length in rw (length-append, length-drop) (omega arith)
+
+module _ (bytes udi : List ℕ) (f : Flash) (ram uds : List ℕ) where
+  abbrev begun : Result
+  begun = beginning bytes udi f ram uds
+
+  -- the number that the call is refused with, 0 for none
+  abbrev begin-due : ℕ
+  begin-due = beginRefusal (length bytes) (length ram) (length uds)
+
+  begin-range : inRange (begun .state) ≡ true
+  unfolding starting
+  begin-range =
+      by-begin bytes udi f ram uds (λ (x : Result). inRange (x .state) ≡ true)
+      (record {
+        refused = λ k e n. stopped-ok 1 refl;
+        wait = λ l. in-range _ l refl refl;
+        unknown = λ l. stopped-ok (length ram) l;
+        unfit = λ l. stopped-ok (length ram) l;
+        start = λ l x h. started-ok (length ram) l;
+        fail = λ l x h. stopped-ok (length ram) l;
+      })
+
+  begin-refused : (k : ℕ) → begun .report ≡ refused k → (k ≡ begin-due) × (k ≡ 0 → ⊥) × (begun ≡ ending (refused k) 1 ram uds)
+  unfolding starting
+  begin-refused k =
+      by-begin bytes udi f ram uds
+      (λ (x : Result). x .report ≡ refused k → (k ≡ begin-due) × (k ≡ 0 → ⊥) × (x ≡ ending (refused k) 1 ram uds))
+      (record {
+        refused = λ j e n q. let z : j ≡ k = cc in (sym z ∙ e, λ y. n (z ∙ y), ap (λ (y : ℕ). ending (refused y) 1 ram uds) z);
+        wait = λ l q. impossible cc;
+        unknown = λ l q. impossible cc;
+        unfit = λ l q. impossible cc;
+        start = λ l x h q. impossible cc;
+        fail = λ l x h q. impossible cc;
+      })
+
+  begin-refused-when : (k : ℕ) → (k ≡ begin-due) × (k ≡ 0 → ⊥) → begun .report ≡ refused k
+  unfolding beginning
+  begin-refused-when k h = rw (← (h .0), ne-eqb k 0 (h .1))
+
+  begin-goes-on : begun .report ≡ continues → begun ≡ unstarted continues (begun .state) ram uds
+  unfolding starting
+  begin-goes-on =
+      by-begin bytes udi f ram uds (λ (x : Result). x .report ≡ continues → x ≡ unstarted continues (x .state) ram uds)
+      (record {
+        refused = λ j e n q. impossible cc;
+        wait = λ l q. refl;
+        unknown = λ l q. impossible cc;
+        unfit = λ l q. impossible cc;
+        start = λ l x h q. impossible cc;
+        fail = λ l x h q. impossible cc;
+      })
+
+  begin-no-whole : begun .report ≡ whole → ⊥
+  unfolding starting
+  begin-no-whole =
+      by-begin bytes udi f ram uds (λ (x : Result). x .report ≡ whole → ⊥)
+      (record {
+        refused = λ j e n q. impossible cc;
+        wait = λ l q. impossible cc;
+        unknown = λ l q. impossible cc;
+        unfit = λ l q. impossible cc;
+        start = λ l x h q. impossible cc;
+        fail = λ l x h q. impossible cc;
+      })
+
+  abbrev BeginStops : ℕ → Result → Type 0
+  BeginStops k x =
+      ((k ≡ 20) ⊎ ((k ≡ 25) ⊎ (k ≡ 26))) × (x ≡ ending (stopped k) (length ram) (x .ram) uds) × ((k ≡ 25 → ⊥) → x .ram ≡ ram)
+
+  stop-as : (j k : ℕ) (ram1 : List ℕ) → j ≡ k → ending (stopped j) (length ram) ram1 uds ≡ ending (stopped k) (length ram) ram1 uds
+  stop-as j k ram1 e = ap (λ (y : ℕ). ending (stopped y) (length ram) ram1 uds) e
+
+  begin-stops : (k : ℕ) → begun .report ≡ stopped k → BeginStops k begun
+  unfolding starting
+  begin-stops k =
+      by-begin bytes udi f ram uds (λ (x : Result). x .report ≡ stopped k → BeginStops k x)
+      (record {
+        refused = λ j e n q. impossible cc;
+        wait = λ l q. impossible cc;
+        unknown = λ l q. let z : k ≡ 20 = cc in (inl z, stop-as 20 k ram (sym z), λ y. refl);
+        unfit = λ l q. let z : k ≡ 26 = cc in (inr (inr z), stop-as 26 k ram (sym z), λ y. refl);
+        start = λ l x h q. impossible cc;
+        fail = λ l x h q. let z : k ≡ 25 = cc in (inr (inl z), stop-as 25 k _ (sym z), λ y. absurd (y z));
+      })
+
+  abbrev BeginStarts : ℕ → ℕ → Result → Type 0
+  BeginStarts a n x =
+      (a ≡ 0x40000000) × (1 ≤ n) × (n ≤ length ram) × (x .state ≡ ended phase.Started (length ram)) × (x .uds ≡ zeros 8)
+      × (x .digest ≡ blake2s [] (take n (x .ram)) 32) × (drop n (x .ram) ≡ drop n ram)
+
+  begin-starts : (a n : ℕ) → begun .report ≡ started a n → BeginStarts a n begun
+  unfolding starting
+  begin-starts a n =
+      by-begin bytes udi f ram uds (λ (x : Result). x .report ≡ started a n → BeginStarts a n x)
+      (record {
+        refused = λ j e n q. impossible cc;
+        wait = λ l q. impossible cc;
+        unknown = λ l q. impossible cc;
+        unfit = λ l q. impossible cc;
+        start = λ l x h q.
+            let z : x .size ≡ n = cc in
+            let g = fit ram x h in
+            rw (← z) (cc, g .0, g .2, refl, refl, ap (λ (p : List ℕ). blake2s [] p 32) (sym (front-is ram x h)), beyond-is ram x h);
+        fail = λ l x h q. impossible cc;
+      })
+
+  begin-length : length (begun .ram) ≡ length ram
+  unfolding starting
+  begin-length =
+      by-begin bytes udi f ram uds (λ (x : Result). length (x .ram) ≡ length ram)
+      (record {
+        refused = λ j e n. refl;
+        wait = λ l. refl;
+        unknown = λ l. refl;
+        unfit = λ l. refl;
+        start = λ l x h. put-length ram x h;
+        fail = λ l x h. put-length ram x h;
+      })
+
+  abbrev BeginUnread : (List ℕ → Result) → Type 0
+  BeginUnread g =
+      ((a n : ℕ) → g uds .report ≡ started a n → ⊥) → (g uds .uds ≡ uds) × ((other : List ℕ) → g other ≡ withUds other (g uds))
+
+  begin-unread : BeginUnread (begunWith bytes udi f ram begin-due)
+  unfolding starting
+  begin-unread =
+      by-secret bytes udi f ram (length uds) BeginUnread
+      (record {
+        refused = λ j e n q. (refl, λ o. refl);
+        wait = λ l q. (refl, λ o. refl);
+        unknown = λ l q. (refl, λ o. refl);
+        unfit = λ l q. (refl, λ o. refl);
+        start = λ l x h q. absurd (q 0x40000000 (x .size) refl);
+        fail = λ l x h q. (refl, λ o. refl);
+      })
+
+  begin-secret : ((a n : ℕ) → begun .report ≡ started a n → ⊥)
+      → (begun .uds ≡ uds) × ((other : List ℕ) → length other ≡ length uds → beginning bytes udi f ram other ≡ withUds other begun)
+  unfolding beginning
+  begin-secret r = let u = begin-unread r in (u .0, λ o e. begin-called bytes udi f ram (length uds) o e ∙ u .1 o)
+
+  abbrev BeginOnlyCdi : ℕ → ℕ → (List ℕ → Result) → Type 0
+  BeginOnlyCdi a n g = g uds .report ≡ started a n → (other : List ℕ) → g other ≡ withCdi (g other .cdi) (g uds)
+
+  begin-only-cdi : (a n : ℕ) → BeginOnlyCdi a n (begunWith bytes udi f ram begin-due)
+  unfolding starting
+  begin-only-cdi a n =
+      by-secret bytes udi f ram (length uds) (BeginOnlyCdi a n)
+      (record {
+        refused = λ j e k q. impossible cc;
+        wait = λ l q. impossible cc;
+        unknown = λ l q. impossible cc;
+        unfit = λ l q. impossible cc;
+        start = λ l x h q o. refl;
+        fail = λ l x h q. impossible cc;
+      })
+
+  begin-identity : (a n : ℕ) → begun .report ≡ started a n → (other : List ℕ) → length other ≡ length uds
+      → beginning bytes udi f ram other ≡ withCdi (beginning bytes udi f ram other .cdi) begun
+  unfolding beginning
+  begin-identity a n r o e =
+      let c = begin-called bytes udi f ram (length uds) o e in
+      c ∙ begin-only-cdi a n r o ∙ ap (λ (x : Result). withCdi (x .cdi) begun) (sym c)
+
+  begin-over : (begun .report ≡ continues → ⊥) → Over (begun .state)
+  unfolding starting
+  begin-over =
+      by-begin bytes udi f ram uds (λ (x : Result). (x .report ≡ continues → ⊥) → Over (x .state))
+      (record {
+        refused = λ j e n q. over phase.Stopped 1 refl refl;
+        wait = λ l q. absurd (q refl);
+        unknown = λ l q. over phase.Stopped (length ram) refl l;
+        unfit = λ l q. over phase.Stopped (length ram) refl l;
+        start = λ l x h q. over phase.Started (length ram) refl l;
+        fail = λ l x h q. over phase.Stopped (length ram) refl l;
+      })
 
 pub head-theorems : HeadTheorems
 head-theorems = record {
   answers = same-answer;
+  begin = λ bytes udi f ram uds. record {
+    range = begin-range bytes udi f ram uds;
+    refuses = λ k. (λ e. let r = begin-refused bytes udi f ram uds k e in (r .0, r .1), begin-refused-when bytes udi f ram uds k);
+    kept = λ k e. begin-refused bytes udi f ram uds k e .2;
+    goes-on = begin-goes-on bytes udi f ram uds;
+    no-whole = begin-no-whole bytes udi f ram uds;
+    stops = begin-stops bytes udi f ram uds;
+    starts = begin-starts bytes udi f ram uds;
+    ram-length = begin-length bytes udi f ram uds;
+    secret = begin-secret bytes udi f ram uds;
+    identity = begin-identity bytes udi f ram uds;
+    over = begin-over bytes udi f ram uds;
+  };
   gather = λ s b. record {
     stays = gather-stays s b;
     refuses = λ k. (λ e. let r = gather-refused s b k e in (r .0, r .1), gather-refused-when s b k);
@@ -533,8 +718,6 @@ head-theorems = record {
     secret = secret s room ram uds;
     identity = identity s room ram uds;
   };
-  begun = begun;
-  no-session = no-session;
   frame = frame-whole;
   passed-over = passed-over;
 }

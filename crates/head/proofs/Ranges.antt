@@ -10,6 +10,7 @@ use Rattle.framing.specs.Header.{Reading, good, headerAt, lengthOf, bodyLen}
 use Rattle.framing.proofs.Headers.{by-bits, body-small}
 use Rattle.protocol.specs.Commands.{lengthOk, blocksFor, placeOf, countIn}
 use Rattle.head.specs.State.{isWhole, incomingOk, loadingOk, progressIn, progressOk, inRange}
+use Rattle.head.specs.Begin.{fits}
 use Rattle.head.specs.Act.{asksName, asksUdi, givesLoad, givesBlock, halts, requestIn, requestWaiting}
 use Rattle.head.specs.declared.Phase.{Phase}
 use Rattle.head.specs.declared.Phase.the-variants.{Waiting, Loading, Started, Stopped}
@@ -53,6 +54,13 @@ incoming-got i e w n =
     go true u p o q = absurd (n (eqb-true (i .got) 0 p))
     go false true p o q = never o
     go false false p o q = leb-true (i .got) (bodyLen (headerAt (i .header))) (sym (or-false (leb (i .got) (bodyLen (headerAt (i .header))))) ∙ q)
+
+-- the size of a program in flash
+pub fit-facts : (n slot m : ℕ) → fits n slot m ≡ true → (1 ≤ n) × (n ≤ slot) × (n ≤ m)
+fit-facts n slot m e =
+    let a = and-eq-true-iff (leb 1 n) _ .0 e in
+    let b = and-eq-true-iff (leb n slot) _ .0 (a .1) in
+    (leb-true 1 n (a .0), leb-true n slot (b .0), leb-true n m (b .1))
 
 -- the numbers of a load
 pub record Loaded (p : Progress) (m : ℕ) : Type 0 where
@@ -99,6 +107,10 @@ block-loading Waiting c n p m e r = absurd (no-block c n e)
 block-loading Started c n p m e r = impossible cc
 block-loading Stopped c n p m e r = impossible cc
 
+-- the length of RAM
+pub length-facts : (m : ℕ) → lengthOk m ≡ true → (1 ≤ m) × (m ≤ 131072)
+length-facts m e = let b = and-eq-true-iff (leb 1 m) _ .0 e in (leb-true 1 m (b .0), leb-true m 131072 (b .1))
+
 -- the parts of the range
 pub record InRange (s : State) : Type 0 where
   pub ram-some : 1 ≤ s .config .«ram_len»
@@ -110,11 +122,11 @@ pub range-facts : (s : State) → inRange s ≡ true → InRange s
 unfolding inRange
 range-facts s e =
     let a = and-eq-true-iff (lengthOk (s .config .«ram_len»)) _ .0 e in
-    let b = and-eq-true-iff (leb 1 (s .config .«ram_len»)) _ .0 (a .0) in
+    let b = length-facts (s .config .«ram_len») (a .0) in
     let d = and-eq-true-iff (incomingOk (s .incoming)) _ .0 (a .1) in
     record {
-      ram-some = leb-true 1 (s .config .«ram_len») (b .0);
-      ram-small = leb-true (s .config .«ram_len») 131072 (b .1);
+      ram-some = b .0;
+      ram-small = b .1;
       incoming = d .0;
       progress = d .1;
     }

@@ -1,5 +1,5 @@
--- The ways that a call can go, as one law for each of the two calls: what holds of each way holds of the call. A way of acting is a function of the
--- words lent as UDS.
+-- The ways that a call can go, as one law for each call: what holds of each way holds of the call. A way of begin and of acting is a function of
+-- the words lent as UDS.
 use Prim.Native.Nat.{ℕ, _+_, _-_, _/_, _<_, _≤_}
 use mathlib.Core.Bool.{Bool, true, false, not, cond, _&&_, or-true}
 use mathlib.Core.Logic.{_⊎_, inl, inr}
@@ -12,20 +12,26 @@ use lib.Seq.{paste, length-paste, drop-paste, take-at, length-take-le}
 use borrow.Author.Tests.{eqb-true, eqb-false, eq-eqb, lt-ltb, le-leb, ne-eqb}
 use Rattle.endian.proofs.Cases.{impossible}
 use Rattle.framing.specs.Header.{Reading, good, stop, headerAt, bodyLen}
-use Rattle.protocol.specs.Commands.{placeOf, countIn, isLast}
+use Rattle.rfc7693.specs.Rfc7693.{blake2s}
+use Rattle.record.specs.Record.{recordAt}
+use Rattle.record.specs.Types.{Source, slot0, slot1, client, unknown, sourceOf}
+use Rattle.protocol.specs.Commands.{lengthOk, placeOf, countIn, isLast}
 use Rattle.protocol.specs.Replies.{sent, nameReply, udiReply, blockReply, digestReply, putIn}
 use Rattle.protocol.specs.Theorems.{Framed}
 use Rattle.protocol.proofs.Proved.{protocol}
 use Rattle.protocol.specs.declared.Reply.{Reply}
-use Rattle.head.specs.State.{isWhole, incomingOk, loadingOk, progressIn, progressOk, live, idle, ended}
-use Rattle.head.specs.Answers.{refused, stopped, Gathering, Outcome}
+use Rattle.head.specs.State.{isWhole, incomingOk, loadingOk, progressIn, progressOk, live, idle, ofSize, ended}
+use Rattle.head.specs.Answers.{refused, stopped, Gathering, Result, Outcome, replied}
+use Rattle.head.specs.Start.{ending, allowed, starting, decided}
+use Rattle.head.specs.Begin.{Slot, Flash, programIn, fits, configOf, waitingWith, fromFlash, bySource, byType, beginRefusal, beginning}
 use Rattle.head.specs.Gather.{Step, taken, bad, opened, withByte, continued, byteStep, gatherRefusal, afterStep, gathered}
-use Rattle.head.specs.Act.{Request, asksName, asksUdi, givesLoad, givesBlock, halts, requestIn, frameIn, requestOf, plain, stopping, replying, between, loadOf, takes, loadAnswer, loaded, afterLoad, storedIn, nextBlock, allowed, starting, finishedWith, actedBlock, performed, actRefusal, refusing, acted}
+use Rattle.head.specs.Act.{Request, asksName, asksUdi, givesLoad, givesBlock, halts, requestIn, frameIn, requestOf, plain, stopping, replying, between, loadOf, takes, loadAnswer, loaded, afterLoad, storedIn, nextBlock, finishedWith, actedBlock, performed, actRefusal, refusing, acted}
 use Rattle.head.specs.Theorems.{SameButBlock}
 use Rattle.head.proofs.Ranges.{by-test, length-some, incoming-got, Loaded, loading-facts, block-within, no-block, block-loading, range-facts}
-use Rattle.head.proofs.Admitted.{gather-admitted, act-admitted}
+use Rattle.head.proofs.Admitted.{begin-admitted, gather-admitted, act-admitted}
 use Rattle.head.specs.declared.Phase.{Phase}
 use Rattle.head.specs.declared.Phase.the-variants as phase
+use Rattle.head.specs.declared.Config.{Config}
 use Rattle.head.specs.declared.Incoming.{Incoming}
 use Rattle.head.specs.declared.Progress.{Progress}
 use Rattle.head.specs.declared.State.{State}
@@ -80,6 +86,68 @@ module _ (s : State) (b : ℕ) (P : Gathering → Type 0) where
         let a = gather-admitted s (eqb-true k 0 z) in
         step-ways (byteStep (s .incoming) b) (step-ok (s .incoming) b (range-facts s (a .range) .incoming) (a .unfinished)) (a .goes))
         (λ z. w .refused k refl (eqb-false k 0 z))
+
+-- ---- begin
+
+-- a begin with the number of its refusal
+abbrev pub begunWith : List ℕ → List ℕ → Flash → List ℕ → ℕ → List ℕ → Result
+begunWith bytes udi f ram k uds = cond (eqb k 0) (byType (recordAt bytes) udi f ram uds) (ending (refused k) 1 ram uds)
+
+-- a begin that lends n words, as a function of these: no test looks at what they are
+module _ (bytes udi : List ℕ) (f : Flash) (ram : List ℕ) (n : ℕ) (P : (List ℕ → Result) → Type 0) where
+  abbrev config : Config
+  config = configOf (recordAt bytes) udi (f .builtIn) (length ram)
+
+  -- the program in a slot
+  abbrev digestIn : Slot → List ℕ
+  digestIn x = blake2s [] (programIn x) 32
+
+  pub record BeginWays : Type 0 where
+    pub refused : (k : ℕ) → k ≡ beginRefusal (length bytes) (length ram) n → (k ≡ 0 → ⊥) → P (ending (refused k) 1 ram)
+    pub wait : lengthOk (length ram) ≡ true → P (waitingWith config ram)
+    pub unknown : lengthOk (length ram) ≡ true → P (ending (stopped 20) (length ram) ram)
+    pub unfit : lengthOk (length ram) ≡ true → P (ending (stopped 26) (length ram) ram)
+    pub start : lengthOk (length ram) ≡ true → (x : Slot) → fits (x .size) (length (x .bytes)) (length ram) ≡ true
+        → P (starting config (ofSize phase.Loading (x .size)) (digestIn x) (putIn ram (programIn x)))
+    pub fail : lengthOk (length ram) ≡ true → (x : Slot) → fits (x .size) (length (x .bytes)) (length ram) ≡ true
+        → P (ending (stopped 25) (length ram) (putIn ram (programIn x)))
+
+  -- by cases on a test, whatever the words are
+  by-result : (t : Bool) (x y : List ℕ → Result) → (t ≡ true → P x) → (t ≡ false → P y) → P (λ u. cond t (x u) (y u))
+  by-result true x y f g = f refl
+  by-result false x y f g = g refl
+
+  module _ (w : BeginWays) where
+    slot-ways : lengthOk (length ram) ≡ true → (x : Slot) → P (fromFlash x config ram)
+    unfolding fromFlash decided
+    slot-ways l x =
+        by-result (fits (x .size) (length (x .bytes)) (length ram)) _ _
+        (λ h. by-result (allowed config (digestIn x)) _ _ (λ a. w .start l x h) (λ a. w .fail l x h)) (λ h. w .unfit l)
+
+    source-ways : lengthOk (length ram) ≡ true → (p : Source) → P (bySource p f config ram)
+    source-ways l slot0 = slot-ways l (f .slot0)
+    source-ways l slot1 = slot-ways l (f .slot1)
+    source-ways l client = w .wait l
+    source-ways l unknown = w .unknown l
+
+    pub by-secret : P (begunWith bytes udi f ram (beginRefusal (length bytes) (length ram) n))
+    by-secret =
+        let k = beginRefusal (length bytes) (length ram) n in
+        by-result (eqb k 0) _ _
+        (λ z. source-ways (begin-admitted (length bytes) (length ram) n (eqb-true k 0 z) .2) (sourceOf (recordAt bytes .type)))
+        (λ z. w .refused k refl (eqb-false k 0 z))
+
+-- the call, with words of this number
+pub begin-called : (bytes udi : List ℕ) (f : Flash) (ram : List ℕ) (n : ℕ) (uds : List ℕ) → length uds ≡ n
+    → beginning bytes udi f ram uds ≡ begunWith bytes udi f ram (beginRefusal (length bytes) (length ram) n) uds
+unfolding beginning
+begin-called bytes udi f ram n uds e = rw e
+
+-- what holds of each way holds of the call
+pub by-begin : (bytes udi : List ℕ) (f : Flash) (ram uds : List ℕ) (P : Result → Type 0) → BeginWays bytes udi f ram (length uds) (λ g. P (g uds))
+    → P (beginning bytes udi f ram uds)
+unfolding beginning
+by-begin bytes udi f ram uds P w = by-secret bytes udi f ram (length uds) (λ g. P (g uds)) w
 
 -- ---- what is loaded stays in range
 
@@ -162,7 +230,7 @@ module _ (s : State) (room ram : List ℕ) (n : ℕ) (P : (List ℕ → Outcome)
     pub progress : (r : Reply) → Framed r → (p : Progress) (ram1 : List ℕ) → progressOk p (s .config .«ram_len») ≡ true
         → (live (s .progress .phase) ≡ true → live (p .phase) ≡ true) → Writes s ram1 ram → P (replying r (between s p) room ram1)
     -- the last block
-    pub start : (d ram1 : List ℕ) → Writes s ram1 ram → P (starting d s (putIn room (sent (digestReply (s .incoming .header) d))) ram1)
+    pub start : (d ram1 : List ℕ) → Writes s ram1 ram → P (λ u. replied 129 (putIn room (sent (digestReply (s .incoming .header) d))) (starting (s .config) (s .progress) d ram1 u))
     pub fail : (d ram1 : List ℕ) → Writes s ram1 ram
         → P (plain (stopped 25) 129 (ended phase.Stopped (s .config .«ram_len»)) (putIn room (sent (digestReply (s .incoming .header) d))) ram1)
 
@@ -171,13 +239,18 @@ module _ (s : State) (room ram : List ℕ) (n : ℕ) (P : (List ℕ → Outcome)
   by-either true x y f g = f refl
   by-either false x y f g = g refl
 
+  by-replied : {k : ℕ} {reply : List ℕ} (t : Bool) (x y : List ℕ → Result) → (t ≡ true → P (λ u. replied k reply (x u)))
+      → (t ≡ false → P (λ u. replied k reply (y u))) → P (λ u. replied k reply (cond t (x u) (y u)))
+  by-replied true x y f g = f refl
+  by-replied false x y f g = g refl
+
   module _ (w : ActWays) where
     abbrev h : ℕ
     h = s .incoming .header
 
     finish-ways : (d ram1 : List ℕ) → Writes s ram1 ram → P (finishedWith d s room ram1)
-    unfolding finishedWith
-    finish-ways d ram1 z = by-either (allowed (s .config) d) _ _ (λ a. w .start d ram1 z) (λ a. w .fail d ram1 z)
+    unfolding finishedWith decided
+    finish-ways d ram1 z = by-replied (allowed (s .config) d) _ _ (λ a. w .start d ram1 z) (λ a. w .fail d ram1 z)
 
     block-ways : Writes s (storedIn ram (frameIn s) (s .progress .size) (s .progress .block)) ram
         → (isLast (s .progress .size) (s .progress .block) ≡ false → progressOk (nextBlock (s .progress)) (s .config .«ram_len») ≡ true)

@@ -1,24 +1,21 @@
 -- Acting on a whole frame, the second of the two calls: document 01, "Commands and replies", refusals 1 to 5 and 47, stops 23 to 25.
 use Prim.Native.Nat.{ℕ, _+_}
-use mathlib.Core.Bool.{Bool, true, not, cond}
+use mathlib.Core.Bool.{Bool, not, cond}
 use mathlib.Core.List.{List, [], _∷_}
 use lib.Dec.{eqb, ltb}
 use lib.ListN.{length, take}
 use lib.Seq.{paste}
 use Rattle.framing.specs.Header.{headerAt, bodyLen}
 use Rattle.rfc7693.specs.Rfc7693.{blake2s}
-use Rattle.endian.specs.Endian.{bytes}
-use Rattle.cdi.specs.Cdi.{cdiOf}
 use Rattle.protocol.specs.Commands.{commandIn, loadIn, goodLoad, usesUss, carriedBy, placeOf, countIn, isLast}
 use Rattle.protocol.specs.Replies.{sent, putIn, nameReply, udiReply, loadReply, blockReply, digestReply}
 use Rattle.protocol.specs.declared.Load.{Load}
 use Rattle.protocol.specs.declared.Reply.{Reply}
-use Rattle.endian.specs.Lists.{zeros, same}
 use Rattle.head.specs.State.{isWhole, inRange, live, idle, ended}
-use Rattle.head.specs.Answers.{Report, refused, continues, stopped, started, Outcome}
+use Rattle.head.specs.Answers.{Report, refused, continues, stopped, Outcome, replied}
+use Rattle.head.specs.Start.{unstarted, decided}
 use Rattle.head.specs.declared.Phase.{Phase}
 use Rattle.head.specs.declared.Phase.the-variants as phase
-use Rattle.head.specs.declared.Config.{Config}
 use Rattle.head.specs.declared.Progress.{Progress}
 use Rattle.head.specs.declared.State.{State}
 
@@ -63,8 +60,7 @@ requestOf s = requestIn (s .progress .phase) (commandIn (frameIn s)) (bodyLen (h
 
 -- an outcome with neither CDI nor digest
 abbrev pub plain : Report → ℕ → State → List ℕ → List ℕ → List ℕ → Outcome
-plain report reply s room ram uds =
-    record { report = report; reply = reply; state = s; cdi = zeros 32; digest = zeros 32; room = room; ram = ram; uds = uds }
+plain report reply s room ram uds = replied reply room (unstarted report s ram uds)
 
 -- stop k, without a reply
 abbrev pub stopping : ℕ → State → List ℕ → List ℕ → List ℕ → Outcome
@@ -103,35 +99,10 @@ storedIn ram f n k = paste ram (placeOf k) (carriedBy f) (countIn n k)
 abbrev pub nextBlock : Progress → Progress
 nextBlock p = record { phase = p .phase; size = p .size; block = p .block + 1; «uss_used» = p .«uss_used»; uss = p .uss }
 
--- type 5 compares the digest with the record's, type 4 does not
-abbrev pub allowed : Config → List ℕ → Bool
-allowed c d = cond (c .verify) (same d (c .required)) true
-
--- the CDI of a start
-abbrev pub cdiAt : State → List ℕ → List ℕ → List ℕ
-cdiAt s d uds = cdiOf (bytes uds) (s .config .chained) (s .config .«measured_id») d (s .progress .«uss_used») (s .progress .uss)
-
--- a start gives the CDI, the digest d, the address and the size; each word of the UDS is then zero
-unfoldable pub starting : List ℕ → State → List ℕ → List ℕ → List ℕ → Outcome
-starting d s room ram uds =
-    record {
-      report = started 0x40000000 (s .progress .size);
-      reply = 129;
-      state = ended phase.Started (s .config .«ram_len»);
-      cdi = cdiAt s d uds;
-      digest = d;
-      room = room;
-      ram = ram;
-      uds = zeros 8;
-    }
-
--- the program has the digest d: the last reply is written, and then the head starts, or stops with 25
+-- the program has the digest d: the last reply is written, and then the head starts or stops
 unfoldable pub finishedWith : List ℕ → State → List ℕ → List ℕ → List ℕ → Outcome
 finishedWith d s room ram uds =
-    let room1 = putIn room (sent (digestReply (s .incoming .header) d)) in
-    cond (allowed (s .config) d)
-    (starting d s room1 ram uds)
-    (plain (stopped 25) 129 (ended phase.Stopped (s .config .«ram_len»)) room1 ram uds)
+    replied 129 (putIn room (sent (digestReply (s .incoming .header) d))) (decided (s .config) (s .progress) d ram uds)
 
 -- the first n bytes of RAM are measured
 abbrev pub finished : State → List ℕ → List ℕ → List ℕ → Outcome

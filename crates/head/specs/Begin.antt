@@ -1,67 +1,85 @@
--- Begin: document 01, "Reset record and lent memory", refusals 6 and 7, stops 20 and 21.
+-- Begin: document 01, "Reset record and lent memory", and change request 3, refusals 5 to 7, stops 20, 25 and 26.
 use Prim.Native.Nat.{ℕ}
-use mathlib.Core.Bool.{Bool, true, false, not, cond}
-use mathlib.Core.Option.{Option, none, some}
-use mathlib.Core.List.{List}
-use lib.Dec.{eqb}
-use lib.ListN.{length}
+use mathlib.Core.Bool.{Bool, not, cond, _&&_}
+use mathlib.Core.List.{List, []}
+use lib.Dec.{eqb, leb}
+use lib.ListN.{length, take}
+use Rattle.rfc7693.specs.Rfc7693.{blake2s}
 use Rattle.record.specs.Record.{Contents, recordAt}
-use Rattle.endian.specs.Lists.{zeros}
+use Rattle.record.specs.Types.{Source, slot0, slot1, client, unknown, sourceOf, verifies, requiredOf}
 use Rattle.protocol.specs.Commands.{lengthOk}
-use Rattle.head.specs.State.{idle, ended}
-use Rattle.head.specs.Answers.{Report, refused, continues, stopped, reportOf}
+use Rattle.protocol.specs.Replies.{putIn}
+use Rattle.head.specs.State.{idle, ofSize}
+use Rattle.head.specs.Answers.{refused, continues, stopped, Result}
+use Rattle.head.specs.Start.{unstarted, ending, decided}
 use Rattle.head.specs.declared.Phase.the-variants as phase
 use Rattle.head.specs.declared.Config.{Config}
 use Rattle.head.specs.declared.Progress.{Progress}
-use Rattle.head.specs.declared.State.{State}
-use Rattle.head.specs.declared.Begun.{Begun}
 
--- all that begin settles: the report and the state that the first call gets
-pub record Beginning : Type 0 where
-  pub report : Report
-  pub state : State
+-- a slot of flash, and the size that the program in it is said to have
+pub record Slot : Type 0 where
+  pub bytes : List ℕ
+  pub size : ℕ
 
-abbrev pub beginningOf : Begun → Beginning
-beginningOf b = record { report = reportOf (b .answer); state = b .state }
+-- what of flash begin is lent and given: two slots, and the digest that is built into the firmware
+pub record Flash : Type 0 where
+  pub slot0 : Slot
+  pub slot1 : Slot
+  pub builtIn : List ℕ
 
--- no session: the state is the one of an end, for a RAM of m bytes
-abbrev pub ending : Report → ℕ → Beginning
-ending report m = record { report = report; state = ended phase.Stopped m }
+abbrev pub flashOf : List ℕ → ℕ → List ℕ → ℕ → List ℕ → Flash
+flashOf s0 n0 s1 n1 d = record { slot0 = record { bytes = s0; size = n0 }; slot1 = record { bytes = s1; size = n1 }; builtIn = d }
 
--- nothing of a load is there
-abbrev pub waiting : Progress
-waiting = record { phase = phase.Waiting; size = 0; block = 0; «uss_used» = false; uss = zeros 32 }
+-- the program is the slot's front part
+abbrev pub programIn : Slot → List ℕ
+programIn f = take (f .size) (f .bytes)
+
+-- a size of 0, over the slot or over the RAM's length m is stop 26
+abbrev pub fits : ℕ → ℕ → ℕ → Bool
+fits n slot m = leb 1 n && (leb n slot && leb n m)
 
 -- what a session goes by
-abbrev pub configOf : Bool → Contents → List ℕ → ℕ → Config
-configOf verify r udi m =
+abbrev pub configOf : Contents → List ℕ → List ℕ → ℕ → Config
+configOf r udi builtIn m =
     record {
       «ram_len» = m;
-      verify = verify;
-      required = r .required;
+      verify = verifies (r .type);
+      required = requiredOf (r .type) builtIn (r .required);
       chained = r .resetSeed;
       «measured_id» = r .measuredId;
       udi = udi;
     }
 
-abbrev pub waitingWith : Config → Beginning
-waitingWith c = record { report = continues; state = record { incoming = idle; config = c; progress = waiting } }
+-- types 4 and 5: nothing of a load is there, and one is waited for
+abbrev pub waiting : Progress
+waiting = ofSize phase.Waiting 0
 
--- type 4 waits for any program, type 5 for one that has the required digest; types 0 to 3 stop with 21, since no flash is fitted, and 6 and
--- above with 20
-abbrev pub byType : Option ℕ → Contents → List ℕ → ℕ → Beginning
-byType (some n) r udi m =
-    cond (eqb n 4) (waitingWith (configOf false r udi m))
-    (cond (eqb n 5) (waitingWith (configOf true r udi m))
-    (ending (stopped 21) m))
-byType none r udi m = ending (stopped 20) m
+abbrev pub waitingWith : Config → List ℕ → List ℕ → Result
+waitingWith c ram uds = unstarted continues (record { incoming = idle; config = c; progress = waiting }) ram uds
 
--- the lowest refusal that applies, 0 for none, by the record's length and the RAM's
-abbrev pub beginRefusal : ℕ → ℕ → ℕ
-beginRefusal n m = cond (not (eqb n 256)) 6 (cond (not (lengthOk m)) 7 0)
+-- types 0 to 3, without a user secret: the program in the slot is measured, put at the front of RAM, and started if its digest is allowed
+unfoldable pub fromFlash : Slot → Config → List ℕ → List ℕ → Result
+fromFlash f c ram uds =
+    cond (fits (f .size) (length (f .bytes)) (length ram))
+    (decided c (ofSize phase.Loading (f .size)) (blake2s [] (programIn f) 32) (putIn ram (programIn f)) uds)
+    (ending (stopped 26) (c .«ram_len») ram uds)
 
--- a refused begin hands back one state, which depends on nothing
-unfoldable pub beginning : List ℕ → List ℕ → ℕ → Beginning
-beginning bytes udi m =
-    let k = beginRefusal (length bytes) m in
-    cond (eqb k 0) (byType (recordAt bytes .type) (recordAt bytes) udi m) (ending (refused k) 1)
+-- by where the program comes from; an unknown type is stop 20
+abbrev pub bySource : Source → Flash → Config → List ℕ → List ℕ → Result
+bySource slot0 f c ram uds = fromFlash (f .slot0) c ram uds
+bySource slot1 f c ram uds = fromFlash (f .slot1) c ram uds
+bySource client f c ram uds = waitingWith c ram uds
+bySource unknown f c ram uds = ending (stopped 20) (c .«ram_len») ram uds
+
+abbrev pub byType : Contents → List ℕ → Flash → List ℕ → List ℕ → Result
+byType r udi f ram uds = bySource (sourceOf (r .type)) f (configOf r udi (f .builtIn) (length ram)) ram uds
+
+-- the lowest refusal that applies, 0 for none, by the lengths of the record, of RAM and of the UDS
+abbrev pub beginRefusal : ℕ → ℕ → ℕ → ℕ
+beginRefusal n m w = cond (not (eqb w 8)) 5 (cond (not (eqb n 256)) 6 (cond (not (lengthOk m)) 7 0))
+
+-- a refused begin leaves RAM and the UDS, and hands back one state, which depends on nothing
+unfoldable pub beginning : List ℕ → List ℕ → Flash → List ℕ → List ℕ → Result
+beginning bytes udi f ram uds =
+    let k = beginRefusal (length bytes) (length ram) (length uds) in
+    cond (eqb k 0) (byType (recordAt bytes) udi f ram uds) (ending (refused k) 1 ram uds)

@@ -1,25 +1,27 @@
--- Known answers: loads, records, replies, strings, calls and states as literal bytes, beside document 01. Of loads, records, replies and strings no
--- theorem about sessions can fix them, since a head and a reading of the same bytes would share the mistake; the calls are examples of what `table`
--- and `whole-when` of `session` say of all. The proof is `known-answers` in proofs/KnownAnswers.antt.
-use Prim.Native.Nat.{ℕ}
+-- Known answers: loads, records, replies, strings, begins, calls and states as literal bytes, beside document 01. Of loads, records, replies and
+-- strings no theorem about sessions can fix them, since a head and a reading of the same bytes would share the mistake; begins and calls are examples
+-- of what `flash-exactly`, `table` and `whole-when` of `session` say of all. The proof is `known-answers` in proofs/KnownAnswers.antt.
+use Prim.Native.Nat.{ℕ, _+_}
 use mathlib.Core.Path.{_≡_}
 use mathlib.Core.Bool.{true, false}
 use mathlib.Core.Option.{Option, none, some}
 use mathlib.Core.List.{List, [], _∷_, _++_}
 use lib.ListN.{length}
 use Rattle.protocol.specs.Commands.{loadIn, goodLoad}
-use Rattle.endian.specs.Lists.{padded, zeros}
+use Rattle.endian.specs.Lists.{each, padded, zeros}
 use Rattle.protocol.specs.Replies.{sent, nameReply, udiReply, loadReply, blockReply, digestReply}
 use Rattle.protocol.specs.declared.Load.{Load}
 use Rattle.record.specs.Record.{recordAt}
 use Rattle.cdi.specs.Theorems.{Strings}
 use Rattle.head.specs.State.{idle, ended}
-use Rattle.head.specs.Answers.{refused, continues, whole, stopped}
-use Rattle.head.specs.Begin.{beginning}
+use Rattle.head.specs.Answers.{refused, continues, whole, stopped, started, Result}
+use Rattle.head.specs.Start.{ending}
+use Rattle.head.specs.Begin.{Flash, flashOf, beginning}
 use Rattle.head.specs.Gather.{gathered}
 use Rattle.head.specs.Act.{loaded, acted}
 use Rattle.head.specs.Theorems.{gatheredOn}
 use Rattle.head.specs.declared.Phase.{Phase}
+use Rattle.head.specs.declared.Phase.the-variants as phase
 use Rattle.head.specs.declared.State.{State}
 
 -- a load of one byte, with a flag; its user secret is zeros
@@ -34,9 +36,71 @@ typeOf a b c d = recordAt (padded 256 (a ∷ b ∷ c ∷ d ∷ [])) .type
 abbrev pub masked : ℕ → ℕ → ℕ → ℕ → List ℕ
 masked a b c d = padded 256 (4 ∷ 0 ∷ 0 ∷ 0 ∷ a ∷ b ∷ c ∷ d ∷ [])
 
+-- the digests of "abc" (RFC 7693, appendix B) and of one byte 0
+abbrev pub abc : List ℕ
+abc =
+    0x50 ∷ 0x8c ∷ 0x5e ∷ 0x8c ∷ 0x32 ∷ 0x7c ∷ 0x14 ∷ 0xe2 ∷
+    0xe1 ∷ 0xa7 ∷ 0x2b ∷ 0xa3 ∷ 0x4e ∷ 0xeb ∷ 0x45 ∷ 0x2f ∷
+    0x37 ∷ 0x45 ∷ 0x8b ∷ 0x20 ∷ 0x9e ∷ 0xd6 ∷ 0x3a ∷ 0x29 ∷
+    0x4d ∷ 0x99 ∷ 0x9b ∷ 0x4c ∷ 0x86 ∷ 0x67 ∷ 0x59 ∷ 0x82 ∷ []
+
+abbrev pub zero : List ℕ
+zero =
+    0xe3 ∷ 0x4d ∷ 0x74 ∷ 0xdb ∷ 0xaf ∷ 0x4f ∷ 0xf4 ∷ 0xc6 ∷
+    0xab ∷ 0xd8 ∷ 0x71 ∷ 0xcc ∷ 0x22 ∷ 0x04 ∷ 0x51 ∷ 0xd2 ∷
+    0xea ∷ 0x26 ∷ 0x48 ∷ 0x84 ∷ 0x6c ∷ 0x77 ∷ 0x57 ∷ 0xfb ∷
+    0xaa ∷ 0xc8 ∷ 0x2f ∷ 0xe5 ∷ 0x1a ∷ 0xd6 ∷ 0x4b ∷ 0xea ∷ []
+
+-- "abcde" in slot 0 and one byte 0 in slot 1, the sizes of the programs in them, and a built-in digest
+abbrev pub flashed : ℕ → ℕ → List ℕ → Flash
+flashed n0 n1 builtIn = flashOf (97 ∷ 98 ∷ 99 ∷ 100 ∷ 101 ∷ []) n0 (0 ∷ []) n1 builtIn
+
+-- begin on a record of which these are the first bytes, with four bytes of RAM and the UDS 1 to 8
+abbrev pub booted : List ℕ → Flash → Result
+booted rec f = beginning (padded 256 rec) (zeros 8) f (9 ∷ 9 ∷ 9 ∷ 9 ∷ []) (1 ∷ 2 ∷ 3 ∷ 4 ∷ 5 ∷ 6 ∷ 7 ∷ 8 ∷ [])
+
+-- a record of this type with mask 0, which requires this digest
+abbrev pub typed : ℕ → List ℕ → List ℕ
+typed type required = type ∷ 0 ∷ 0 ∷ 0 ∷ 0 ∷ 0 ∷ 0 ∷ 0 ∷ required
+
+pub record Begins : Type 0 where
+  -- a start from slot 0, of the first three bytes there
+  pub start : booted (typed 0 []) (flashed 3 1 abc) ≡ record {
+    report = started 0x40000000 3;
+    state = ended phase.Started 4;
+    cdi =
+        0x02 ∷ 0x41 ∷ 0x4a ∷ 0x90 ∷ 0xf4 ∷ 0x50 ∷ 0x8d ∷ 0xb6 ∷
+        0x74 ∷ 0xc8 ∷ 0x59 ∷ 0x0c ∷ 0x7c ∷ 0xe0 ∷ 0x53 ∷ 0xd3 ∷
+        0xe5 ∷ 0xb4 ∷ 0x0f ∷ 0xcd ∷ 0xb6 ∷ 0xf5 ∷ 0x24 ∷ 0x43 ∷
+        0x7c ∷ 0x60 ∷ 0x3e ∷ 0xce ∷ 0x81 ∷ 0x21 ∷ 0xae ∷ 0x0d ∷ [];
+    digest = abc;
+    ram = 97 ∷ 98 ∷ 99 ∷ 9 ∷ [];
+    uds = zeros 8;
+  }
+  -- and a chained one from slot 1: mask 1, and 0xc0, 0xc1, .. for measured_id
+  pub chained : booted (1 ∷ 0 ∷ 0 ∷ 0 ∷ 1 ∷ 0 ∷ 0 ∷ 0 ∷ zeros 32 ++ each 32 (λ i. 0xc0 + i)) (flashed 3 1 []) .cdi ≡
+      0x8c ∷ 0x8f ∷ 0xda ∷ 0x2d ∷ 0xfb ∷ 0x6a ∷ 0x03 ∷ 0x26 ∷
+      0x79 ∷ 0x3c ∷ 0x23 ∷ 0xe3 ∷ 0xd6 ∷ 0x69 ∷ 0x9a ∷ 0xf8 ∷
+      0xe3 ∷ 0x4a ∷ 0xe8 ∷ 0x69 ∷ 0x73 ∷ 0x40 ∷ 0xf1 ∷ 0x09 ∷
+      0xa7 ∷ 0xe4 ∷ 0x07 ∷ 0x26 ∷ 0xfa ∷ 0x51 ∷ 0x78 ∷ 0x82 ∷ []
+  -- each type: its slot, and the digest that it requires; type 0 not the record's, types 2 and 3 not the built-in one, type 1 none
+  pub types : (booted (typed 0 abc) (flashed 3 1 zero) .report ≡ stopped 25) × (booted (typed 1 abc) (flashed 3 1 abc) .report ≡ started 0x40000000 1)
+      × (booted (typed 2 abc) (flashed 3 1 zero) .report ≡ started 0x40000000 3) × (booted (typed 3 zero) (flashed 3 1 abc) .report ≡ started 0x40000000 1)
+      × (booted (typed 3 abc) (flashed 3 1 zero) .report ≡ stopped 25) × (booted (typed 4 []) (flashed 0 0 []) .report ≡ continues)
+      × (booted (typed 5 []) (flashed 0 0 []) .report ≡ continues) × (booted (typed 6 []) (flashed 3 1 []) .report ≡ stopped 20)
+  -- the program of a stop 25 stays in RAM, and the UDS as it was
+  pub stop : booted (typed 2 zero) (flashed 3 1 abc) ≡ ending (stopped 25) 4 (97 ∷ 98 ∷ 99 ∷ 9 ∷ []) (1 ∷ 2 ∷ 3 ∷ 4 ∷ 5 ∷ 6 ∷ 7 ∷ 8 ∷ [])
+  -- sizes 0, of the slot and one more; as long as the RAM and one more, which is as long as the slot
+  pub sizes : (booted (typed 1 []) (flashed 3 0 []) .report ≡ stopped 26) × (booted (typed 1 []) (flashed 3 1 []) .report ≡ started 0x40000000 1)
+      × (booted (typed 1 []) (flashed 3 2 []) .report ≡ stopped 26) × (booted (typed 2 []) (flashed 4 1 []) .report ≡ stopped 25)
+      × (booted (typed 2 []) (flashed 5 1 []) ≡ ending (stopped 26) 4 (9 ∷ 9 ∷ 9 ∷ 9 ∷ []) (1 ∷ 2 ∷ 3 ∷ 4 ∷ 5 ∷ 6 ∷ 7 ∷ 8 ∷ []))
+  -- refusals in their order, of record, RAM and UDS
+  pub refusals : (beginning [] [] (flashed 0 0 []) [] [] .report ≡ refused 5) × (beginning [] [] (flashed 0 0 []) [] (zeros 8) .report ≡ refused 6)
+      × (beginning (zeros 256) [] (flashed 0 0 []) [] (zeros 8) .report ≡ refused 7)
+
 -- a head begun on a record of type 4 with one byte of RAM, after these bytes were gathered
 abbrev pub having : List ℕ → State
-having bs = gatheredOn bs (record { report = continues; state = beginning (padded 256 (4 ∷ [])) (zeros 8) 1 .state }) .state
+having bs = gatheredOn bs (record { report = continues; state = beginning (padded 256 (4 ∷ [])) (zeros 8) (flashed 0 0 []) (0 ∷ []) (zeros 8) .state }) .state
 
 pub record KnownAnswers : Type 0 where
   -- flags 0, 1, 2 and 255, in byte 6: 0 means that there is no user secret, 1 that it is used, also one of zeros, and a load with another is
@@ -60,6 +124,8 @@ pub record KnownAnswers : Type 0 where
   pub digest : (d : List ℕ) → length d ≡ 32 → sent (digestReply 0x73 d) ≡ 0x73 ∷ 0x07 ∷ 0 ∷ d ++ zeros 94
   -- the string of the CDI as bytes, direct and chained, without and with a user secret
   pub strings : Strings
+  -- begins
+  pub begins : Begins
   -- the query 10 01 and the calls around it: when it is whole, and the refusals in their order
   pub gathering : (gathered (having []) 0x10 .report ≡ continues) × (gathered (having (0x10 ∷ [])) 0x01 .report ≡ whole)
       × (gathered (having (0x10 ∷ 0x01 ∷ [])) 0x10 .report ≡ refused 47)

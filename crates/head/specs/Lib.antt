@@ -1,5 +1,6 @@
 pub mod State
 pub mod Answers
+pub mod Start
 pub mod Begin
 pub mod Gather
 pub mod Act

@@ -58,11 +58,15 @@ live Stopped = false
 abbrev pub idle : Incoming
 idle = record { header = 0; got = 0; body = zeros 128 }
 
+-- a program of n bytes, no block of which has come, and no user secret
+abbrev pub ofSize : Phase → ℕ → Progress
+ofSize p n = record { phase = p; size = n; block = 0; «uss_used» = false; uss = zeros 32 }
+
 -- the state after a start or a stop: the phase and the RAM's length, and zeros
 unfoldable pub ended : Phase → ℕ → State
 ended p m =
     record {
       incoming = idle;
       config = record { «ram_len» = m; verify = false; required = zeros 32; chained = false; «measured_id» = zeros 32; udi = zeros 8 };
-      progress = record { phase = p; size = 0; block = 0; «uss_used» = false; uss = zeros 32 };
+      progress = ofSize p 0;
     }

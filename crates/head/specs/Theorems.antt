@@ -8,11 +8,13 @@ use lib.Dec.{eqb}
 use lib.ListN.{length, take, drop}
 use lib.Seq.{paste}
 use Rattle.framing.specs.Header.{good, headerAt}
+use Rattle.rfc7693.specs.Rfc7693.{blake2s}
 use Rattle.protocol.specs.Commands.{placeOf, countIn}
 use Rattle.endian.specs.Lists.{zeros}
 use Rattle.head.specs.State.{isWhole, inRange, live, idle, ended}
-use Rattle.head.specs.Answers.{refused, continues, whole, stopped, started, reportOf, Gathering, Outcome}
-use Rattle.head.specs.Begin.{beginning}
+use Rattle.head.specs.Answers.{refused, continues, whole, stopped, started, reportOf, Gathering, Result, Outcome, replied, unreplied}
+use Rattle.head.specs.Start.{unstarted, ending}
+use Rattle.head.specs.Begin.{Flash, beginRefusal, beginning}
 use Rattle.head.specs.Gather.{gatherRefusal, withIncoming, gathered}
 use Rattle.head.specs.Act.{actRefusal, refusing, acted}
 use Rattle.head.specs.declared.Phase.the-variants as phase
@@ -31,33 +33,53 @@ SameButBlock s x y =
     let end = place + countIn (s .progress .size) (s .progress .block) in
     (length x ≡ length y) × (take place x ≡ take place y) × (drop end x ≡ drop end y)
 
--- an outcome with other words for the UDS
-abbrev pub withUds : Outcome → List ℕ → Outcome
-withUds o uds =
-    record {
-      report = o .report;
-      reply = o .reply;
-      state = o .state;
-      cdi = o .cdi;
-      digest = o .digest;
-      room = o .room;
-      ram = o .ram;
-      uds = uds;
-    }
+-- a result with other words for the UDS, or with another CDI
+abbrev pub withUds : List ℕ → Result → Result
+withUds uds x = record { report = x .report; state = x .state; cdi = x .cdi; digest = x .digest; ram = x .ram; uds = uds }
 
--- and with another CDI
-abbrev pub withCdi : Outcome → List ℕ → Outcome
-withCdi o cdi =
-    record {
-      report = o .report;
-      reply = o .reply;
-      state = o .state;
-      cdi = cdi;
-      digest = o .digest;
-      room = o .room;
-      ram = o .ram;
-      uds = o .uds;
-    }
+abbrev pub withCdi : List ℕ → Result → Result
+withCdi cdi x = record { report = x .report; state = x .state; cdi = cdi; digest = x .digest; ram = x .ram; uds = x .uds }
+
+-- an outcome with its result changed: the reply stays
+abbrev pub changed : (Result → Result) → Outcome → Outcome
+changed f o = replied (o .reply) (o .room) (f (unreplied o))
+
+-- begin with anything lent
+module _ (bytes udi : List ℕ) (f : Flash) (ram uds : List ℕ) where
+  -- what the call leads to
+  abbrev pub afterBegin : Result
+  afterBegin = beginning bytes udi f ram uds
+
+  pub record BeginProperties : Type 0 where
+    -- every state that begin hands back is in range
+    pub range : inRange (afterBegin .state) ≡ true
+    -- a call answers the number of a refusal exactly when that is the number of what is lent; RAM and the UDS then stay
+    pub refuses : (k : ℕ) → (afterBegin .report ≡ refused k) ↔ ((k ≡ beginRefusal (length bytes) (length ram) (length uds)) × (k ≡ 0 → ⊥))
+    pub kept : (k : ℕ) → afterBegin .report ≡ refused k → afterBegin ≡ ending (refused k) 1 ram uds
+    -- where a session begins, RAM and the UDS stay, and neither CDI nor digest is given
+    pub goes-on : afterBegin .report ≡ continues → afterBegin ≡ unstarted continues (afterBegin .state) ram uds
+    -- no begin makes a frame whole
+    pub no-whole : afterBegin .report ≡ whole → ⊥
+    -- after a stop, 20, 25 or 26, the state is the one of an end and the UDS stays; only 25 comes after RAM was written
+    pub stops : (k : ℕ) → afterBegin .report ≡ stopped k
+        → ((k ≡ 20) ⊎ ((k ≡ 25) ⊎ (k ≡ 26))) × (afterBegin ≡ ending (stopped k) (length ram) (afterBegin .ram) uds)
+        × ((k ≡ 25 → ⊥) → afterBegin .ram ≡ ram)
+    -- after a start the state is the one of an end, each word of the UDS is zero, and the digest is that of the first n bytes of RAM
+    pub starts : (address n : ℕ) → afterBegin .report ≡ started address n
+        → (address ≡ 0x40000000) × (1 ≤ n) × (n ≤ length ram) × (afterBegin .state ≡ ended phase.Started (length ram))
+        × (afterBegin .uds ≡ zeros 8) × (afterBegin .digest ≡ blake2s [] (take n (afterBegin .ram)) 32) × (drop n (afterBegin .ram) ≡ drop n ram)
+    -- RAM keeps its length
+    pub ram-length : length (afterBegin .ram) ≡ length ram
+    -- only a start depends on the UDS (document 01: it is read only at a start): a call that answers none leaves its words, and does the same
+    -- with any others, if they are as many; with others a start may give another CDI, and all else is the same
+    pub secret : ((address n : ℕ) → afterBegin .report ≡ started address n → ⊥)
+        → (afterBegin .uds ≡ uds) × ((other : List ℕ) → length other ≡ length uds → beginning bytes udi f ram other ≡ withUds other afterBegin)
+    pub identity : (address n : ℕ) → afterBegin .report ≡ started address n
+        → (other : List ℕ) → length other ≡ length uds → beginning bytes udi f ram other ≡ withCdi (beginning bytes udi f ram other .cdi) afterBegin
+    -- unless a session begins, every call on the state is refused with 2
+    pub over : (afterBegin .report ≡ continues → ⊥)
+        → ((b : ℕ) → gathered (afterBegin .state) b ≡ record { report = refused 2; state = afterBegin .state })
+        × ((room ram uds : List ℕ) → acted (afterBegin .state) room ram uds ≡ refusing 2 (afterBegin .state) room ram uds)
 
 -- any byte gathered in any state, in range or not
 module _ (s : State) (b : ℕ) where
@@ -123,20 +145,16 @@ module _ (s : State) (room ram uds : List ℕ) where
     -- only a start depends on the UDS (document 01: it is read only at a start): a call that answers none leaves its words, and does the same
     -- with any others, if they are as many; with others a start may give another CDI, and all else is the same
     pub secret : ((address size : ℕ) → afterAct .report ≡ started address size → ⊥)
-        → (afterAct .uds ≡ uds) × ((other : List ℕ) → length other ≡ length uds → acted s room ram other ≡ withUds afterAct other)
+        → (afterAct .uds ≡ uds) × ((other : List ℕ) → length other ≡ length uds → acted s room ram other ≡ changed (withUds other) afterAct)
     pub identity : (address size : ℕ) → afterAct .report ≡ started address size
-        → (other : List ℕ) → length other ≡ length uds → acted s room ram other ≡ withCdi afterAct (acted s room ram other .cdi)
+        → (other : List ℕ) → length other ≡ length uds → acted s room ram other ≡ changed (withCdi (acted s room ram other .cdi)) afterAct
 
 pub record HeadTheorems : Type 0 where
   -- the reported number and values settle the answer
   pub answers : (x y : Answer) → reportOf x ≡ reportOf y → x ≡ y
+  pub begin : (bytes udi : List ℕ) (f : Flash) (ram uds : List ℕ) → BeginProperties bytes udi f ram uds
   pub gather : (s : State) (b : ℕ) → GatherProperties s b
   pub act : (s : State) (room ram uds : List ℕ) → ActProperties s room ram uds
-  -- every state that begin hands back is in range; after a refusal or a stop every call on it is refused with 2
-  pub begun : (bytes udi : List ℕ) (m : ℕ) → inRange (beginning bytes udi m .state) ≡ true
-  pub no-session : (bytes udi : List ℕ) (m : ℕ) → (beginning bytes udi m .report ≡ continues → ⊥)
-      → ((b : ℕ) → gathered (beginning bytes udi m .state) b ≡ record { report = refused 2; state = beginning bytes udi m .state })
-      × ((room ram uds : List ℕ) → acted (beginning bytes udi m .state) room ram uds ≡ refusing 2 (beginning bytes udi m .state) room ram uds)
   -- a good frame gathered between frames, from its header to its last byte: one for the firmware is whole, with its body at the front of the
   -- gathered bytes; one for another endpoint leaves nothing
   pub frame : (s : State) (h id ep n : ℕ) (body : List ℕ) → gatherRefusal s ≡ 0 → s .incoming .got ≡ 0 → length (s .incoming .body) ≡ 128

@@ -1,12 +1,13 @@
 // A head as a state that calls change: the types of the state and of the answers, what each call does (specs/), what is proved of that, and
 // the code that goes by the state alone, `gather` among it. `loader` has the calls that are lent memory.
-// Document 01 in the terms of specs/: State (the state and its ranges), Answers (the paper's numbers), Begin, Gather and Act (what each call
-// does); the theorems are Theorems and KnownAnswers.
+// Document 01 in the terms of specs/: State (the state and its ranges), Answers (the paper's numbers), Start (what a start is), Begin, Gather
+// and Act (what each call does); the theorems are Theorems and KnownAnswers.
 mod commands;
 mod gathering;
 mod states;
 
 ghost use mathlib.Core.Path.{_≡_};
+ghost use Rattle.head.specs.Begin.{beginRefusal};
 ghost use Rattle.head.specs.Gather.{gatherRefusal};
 ghost use Rattle.head.specs.Act.{actRefusal};
 ghost use Rattle.head.specs.Answers.{refusalNumber, stopNumber, admissionNumber};
@@ -14,8 +15,10 @@ pub use commands::decide;
 pub use gathering::gather;
 pub use states::allowed;
 pub use states::ended;
+pub use states::fits;
 pub use states::idle;
 pub use states::is_whole;
+pub use states::of_size;
 
 // Where a session stands.
 pub enum Phase {
@@ -65,7 +68,7 @@ pub struct State {
     pub progress: Progress,
 }
 
-// Why a call was refused: document 01's refusals 1 to 7, and 47. Begin gives 6 and 7, `gather` 1, 2 and 47, `act` 1 to 5 and 47.
+// Why a call was refused: document 01's refusals 1 to 7, and 47. Begin gives 5 to 7, `gather` 1, 2 and 47, `act` 1 to 5 and 47.
 pub enum Refusal {
     // A field of the state is out of its range.
     StateRange,
@@ -85,12 +88,10 @@ pub enum Refusal {
     OutOfTurn,
 }
 
-// Why the head stopped: document 01's stops 20 to 25. Begin gives the first two, `gather` 22, `act` the others.
+// Why the head stopped: document 01's stops, and 26 of change request 3. Begin gives 20, 25 and 26, `gather` 22, `act` 23 to 25.
 pub enum Stop {
     // The record's type is 6 or above.
     UnknownType,
-    // The record's type is 0 to 3, and no flash is fitted.
-    NoFlash,
     // Bit 7 or bit 2 of a header is set.
     HeaderBit,
     // The command is not allowed in this phase, or unknown.
@@ -99,6 +100,8 @@ pub enum Stop {
     BodyLength,
     // The program has not the required digest.
     Digest,
+    // The size of the program in flash is 0, over the slot or over RAM.
+    ProgramSize,
 }
 
 // What a call answers.
@@ -117,6 +120,9 @@ pub enum Answer {
 // What begin gives back.
 pub struct Begun {
     pub answer: Answer,
+    // The CDI and the program's digest at a start; otherwise zeros.
+    pub cdi: [u8; 32],
+    pub digest: [u8; 32],
     pub state: State,
 }
 
@@ -165,17 +171,17 @@ pub fn refusal_number(r: Refusal) -> u8
     }
 }
 
-// The number that document 01 gives a stop.
+// The number of a stop: document 01's, and 26 of change request 3.
 pub fn stop_number(s: Stop) -> u8
     ensures { λ x. ⌜ x ≡ stopNumber s ⌝ }
 {
     match s {
         Stop::UnknownType => 20,
-        Stop::NoFlash => 21,
         Stop::HeaderBit => 22,
         Stop::Command => 23,
         Stop::BodyLength => 24,
         Stop::Digest => 25,
+        Stop::ProgramSize => 26,
     }
 }
 
@@ -183,6 +189,22 @@ pub fn stop_number(s: Stop) -> u8
 pub enum Admission {
     Admitted,
     Refused(Refusal),
+}
+
+// The first refusal that applies to a begin with so many bytes and words lent, or none.
+pub fn admit_begin(record: usize, ram: usize, uds: usize) -> Admission
+    ensures { λ r. ⌜ admissionNumber r ≡ beginRefusal «record» ram uds ⌝ }
+{
+    if uds != 8 {
+        return Admission::Refused(Refusal::SecretLength);
+    }
+    if record != 256 {
+        return Admission::Refused(Refusal::RecordLength);
+    }
+    if !protocol::length_ok(ram) {
+        return Admission::Refused(Refusal::RamSize);
+    }
+    Admission::Admitted
 }
 
 // The first refusal that applies to gathering in a state, or none.

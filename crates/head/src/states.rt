@@ -1,7 +1,8 @@
 // The state: the range of each field (docs/STATES.md), and what it is after a start or a stop.
 ghost use mathlib.Core.Path.{_≡_};
-ghost use Rattle.head.specs.Act.{allowed};
-ghost use Rattle.head.specs.State.{isWhole, incomingOk, waitingOk, loadingOk, progressOk, inRange, live, ended, idle};
+ghost use Rattle.head.specs.Start.{allowed};
+ghost use Rattle.head.specs.Begin.{fits};
+ghost use Rattle.head.specs.State.{isWhole, incomingOk, waitingOk, loadingOk, progressOk, inRange, live, idle, ofSize, ended};
 use super::Config;
 use super::Incoming;
 use super::Phase;
@@ -115,6 +116,19 @@ pub fn idle() -> Incoming
     }
 }
 
+// A program of this size, no block of which has come, and no user secret.
+pub fn of_size(phase: Phase, size: u32) -> Progress
+    ensures { λ r. ⌜ r ≡ ofSize phase size ⌝ }
+{
+    Progress {
+        phase,
+        size,
+        block: 0,
+        uss_used: false,
+        uss: [0; 32],
+    }
+}
+
 // The state after a start or a stop.
 pub fn ended(phase: Phase, ram_len: usize) -> State
     ensures { λ r. ⌜ r ≡ ended phase «ram_len» ⌝ }
@@ -129,13 +143,7 @@ pub fn ended(phase: Phase, ram_len: usize) -> State
             measured_id: [0; 32],
             udi: [0; 8],
         },
-        progress: Progress {
-            phase,
-            size: 0,
-            block: 0,
-            uss_used: false,
-            uss: [0; 32],
-        },
+        progress: of_size(phase, 0),
     }
 }
 
@@ -148,4 +156,17 @@ pub fn allowed(c: Config, digest: [u8; 32]) -> bool
     }
     let required = c.required;
     endian::equal(&digest, &required)
+}
+
+// Whether a program of this size is in a slot and has room in RAM: both are given by their lengths.
+pub fn fits(size: usize, slot: usize, ram: usize) -> bool
+    ensures { λ r. ⌜ r ≡ fits size slot ram ⌝ }
+{
+    if size == 0 {
+        return false;
+    }
+    if slot < size {
+        return false;
+    }
+    size <= ram
 }

@@ -9,7 +9,7 @@ fn main() {
     let mut ram = [0u8; 32768];
     let mut front = [0u8; 296];
     let got = io::read_full(STDIN_FILENO, &mut front);
-    let mut t = printer::open(front, got, 32768);
+    let mut t = printer::open(front, got, &mut ram);
     let lines = t.text;
     text::write(STDOUT_FILENO, lines);
     while !t.over {

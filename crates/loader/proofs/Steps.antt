@@ -10,16 +10,15 @@ use Rattle.protocol.specs.Replies.{sent, loadReply, blockReply, digestReply, pu
 use Rattle.protocol.specs.declared.Frame.{Frame}
 use Rattle.protocol.specs.declared.Load.{Load}
 use Rattle.protocol.specs.declared.Reply.{Reply}
-use Rattle.head.specs.State.{ended}
-use Rattle.head.specs.Answers.{refusalNumber, outcome}
-use Rattle.head.specs.Act.{frameIn, loadOf, takes, loaded, loadAnswer, afterLoad, storedIn, nextBlock, between, allowed, starting, finishedWith, finished, actedBlock, actRefusal, acted}
+use Rattle.head.specs.Answers.{refusalNumber, Result, resultOf, replied, outcome}
+use Rattle.head.specs.Start.{decided}
+use Rattle.head.specs.Act.{frameIn, loadOf, takes, loaded, loadAnswer, afterLoad, storedIn, nextBlock, between, finishedWith, finished, actedBlock, actRefusal, acted}
 use Rattle.loader.specs.Steps.{plainly, Replies, frameOf}
-use Rattle.head.specs.declared.Phase.the-variants as phase
 use Rattle.head.specs.declared.Refusal.{Refusal}
-use Rattle.head.specs.declared.Answer.the-variants.{Refused, Stopped}
-use Rattle.head.specs.declared.Stop.the-variants.{Digest}
+use Rattle.head.specs.declared.Answer.the-variants.{Refused}
 use Rattle.head.specs.declared.Progress.{Progress}
 use Rattle.head.specs.declared.State.{State}
+use Rattle.head.specs.declared.Begun.{Begun}
 use Rattle.head.specs.declared.Acted.{Acted}
 use Rattle.head.proofs.Admitted.{numbered}
 
@@ -63,21 +62,15 @@ module _ (s : State) (f : Frame) (last : Bool) (room ram ram' uds : List ℕ) (e
   unfolding actedBlock
   other-block t r p x room' er ep ex = rw (← el, t, ex .0, ex .1, er, ep, stored)
 
--- after the last block, with the digest that is measured
-module _ (s : State) (d room ram uds : List ℕ) (x : Acted) (room' uds' : List ℕ) (ed : d ≡ blake2s [] (take (s .progress .size) ram) 32)
-    (er : room' ≡ putIn room (sent (digestReply (s .incoming .header) d))) where
-  measured : finishedWith d s room ram uds ≡ finished s room ram uds
-  measured = ap (λ (y : List ℕ). finishedWith y s room ram uds) ed
-
-  pub ends-in-start : allowed (s .config) d ≡ true → ((r m : List ℕ) → outcome x r m uds' ≡ starting d s r m uds)
-      → outcome x room' ram uds' ≡ finished s room ram uds
-  unfolding finishedWith
-  ends-in-start ea ex = rw (← measured) (rw (ea, ← er) (ex room' ram))
-
-  pub ends-in-stop : allowed (s .config) d ≡ false → x ≡ plainly (Stopped Digest) 129 (ended phase.Stopped (s .config .«ram_len»)) → uds' ≡ uds
-      → outcome x room' ram uds' ≡ finished s room ram uds
-  unfolding finishedWith
-  ends-in-stop ea ex eu = rw (← measured) (rw (ea, ex, eu, er))
+-- after the last block, with the digest that is measured and how the program then ended
+pub finished-as : (s : State) (d room ram uds : List ℕ) (x : Acted) (b : Begun) (room' uds' : List ℕ)
+    → d ≡ blake2s [] (take (s .progress .size) ram) 32 → room' ≡ putIn room (sent (digestReply (s .incoming .header) d))
+    → ((r m u : List ℕ) → outcome x r m u ≡ replied 129 r (resultOf b m u))
+    → ((m : List ℕ) → resultOf b m uds' ≡ decided (s .config) (s .progress) d m uds) → outcome x room' ram uds' ≡ finished s room ram uds
+unfolding finishedWith
+finished-as s d room ram uds x b room' uds' ed er ex eb =
+    ex room' ram uds' ∙ ap (λ (y : Result). replied 129 room' y) (eb ram)
+    ∙ ap (λ (r : List ℕ). replied 129 r (decided (s .config) (s .progress) d ram uds)) er ∙ ap (λ (y : List ℕ). finishedWith y s room ram uds) ed
 
 -- a refused call
 pub refused-as : (s : State) (room ram uds : List ℕ) (w : Refusal) (x : Acted) → x ≡ plainly (Refused w) 0 s

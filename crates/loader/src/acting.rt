@@ -7,12 +7,13 @@ ghost use lib.ListN.{length};
 ghost use Rattle.protocol.specs.Commands.{longest};
 ghost use Rattle.protocol.specs.Replies.{nameReply, udiReply};
 ghost use Rattle.head.specs.State.{progressOk, loadingOk, ended};
-ghost use Rattle.head.specs.Answers.{outcome};
-ghost use Rattle.head.specs.Act.{between, loaded, afterLoad, loadAnswer, nextBlock, starting, finished, actedBlock, requestOf, performed};
+ghost use Rattle.head.specs.Answers.{resultOf, replied, outcome};
+ghost use Rattle.head.specs.Act.{between, loaded, afterLoad, loadAnswer, nextBlock, finished, actedBlock, requestOf, performed};
 ghost use Rattle.loader.specs.Steps.{plainly, Replies, frameOf};
 use head::Acted;
 use head::Action;
 use head::Answer;
+use head::Begun;
 use head::Incoming;
 use head::Phase;
 use head::Progress;
@@ -134,27 +135,20 @@ fn next_block(p: Progress) -> Progress
     next
 }
 
-// A start: the device secret is read, and then cleared.
-fn start(s: State, digest: [u8; 32], uds: &mut [u32]) -> Acted
-    requires { ⌜ length (now uds) ≡ 8 ⌝ }
-    ensures { λ r. ⌜ ((room ram : List ℕ) → outcome r room ram (now (uds .exit)) ≡ starting digest s room ram (now (uds .entry))) ⌝ }
+// The last reply, with how the load ended.
+fn replied(x: Begun) -> Acted
+    ensures { λ r. ⌜ ((room ram uds : List ℕ) → outcome r room ram uds ≡ replied 129 room (resultOf x ram uds)) ⌝ }
 {
-    let c = s.config;
-    let p = s.progress;
-    let secret = super::memory::secret_bytes(uds);
-    let measured_id = c.measured_id;
-    let uss = p.uss;
-    let cdi = cdi::derive(secret, c.chained, measured_id, digest, p.uss_used, uss);
-    endian::clear(uds);
+    let answer = x.answer;
+    let cdi = x.cdi;
+    let digest = x.digest;
+    let state = x.state;
     Acted {
-        answer: Answer::Started {
-            address: 0x40000000,
-            size: p.size,
-        },
+        answer,
         reply: 129,
-        state: head::ended(Phase::Started, c.ram_len),
         cdi,
         digest,
+        state,
     }
 }
 
@@ -166,18 +160,12 @@ fn finish(s: State, room: &mut [u8], ram: &mut [u8], uds: &mut [u32]) -> Acted
     ensures { λ r. ⌜ outcome r (now (room .exit)) (now (ram .exit)) (now (uds .exit)) ≡ finished s (now (room .entry)) (now (ram .entry)) (now (uds .entry)) ⌝ }
 {
     let c = s.config;
-    let n = s.progress.size as usize;
-    let digest = super::memory::measure(ram, n);
+    let p = s.progress;
+    let n = p.size as usize;
+    let digest = super::memory::measure(&ram[..n]);
     let reply = protocol::digest_reply(s.incoming.header, digest);
     super::memory::put(room, reply);
-    if head::allowed(c, digest) {
-        return start(s, digest, uds);
-    }
-    plain(
-        Answer::Stopped(Stop::Digest),
-        129,
-        head::ended(Phase::Stopped, c.ram_len),
-    )
+    replied(super::starting::decide(c, p, digest, uds))
 }
 
 // A block.

@@ -1,18 +1,20 @@
 // What begin makes of a reset record.
 ghost use mathlib.Core.Path.{_≡_};
+ghost use mathlib.Core.List.{List};
+ghost use Prim.Native.Nat.{ℕ, _≤_};
 ghost use lib.ListN.{length};
-ghost use Rattle.record.specs.Record.{typeNumber, recordOf};
-ghost use Rattle.head.specs.Begin.{beginningOf, ending, configOf, waitingWith, byType};
-ghost use Rattle.head.specs.Answers.{reportOf};
+ghost use Rattle.protocol.specs.Commands.{longest};
+ghost use Rattle.record.specs.Record.{recordOf};
+ghost use Rattle.head.specs.Answers.{resultOf};
+ghost use Rattle.head.specs.Begin.{flashOf, configOf, waitingWith, byType};
 use head::Answer;
 use head::Begun;
 use head::Config;
 use head::Phase;
-use head::Progress;
 use head::State;
 use head::Stop;
+use record::Place;
 use record::Record;
-use record::ResetType;
 
 // The bytes of a record, by value.
 pub fn record_bytes(record: &[u8]) -> [u8; 256]
@@ -24,24 +26,16 @@ pub fn record_bytes(record: &[u8]) -> [u8; 256]
     bytes
 }
 
-// No session.
-pub fn end(answer: Answer, ram_len: usize) -> Begun
-    ensures { λ r. ⌜ beginningOf r ≡ ending (reportOf answer) «ram_len» ⌝ }
-{
-    let state = head::ended(Phase::Stopped, ram_len);
-    Begun { answer, state }
-}
-
 // What a session goes by.
-fn config(verify: bool, r: Record, udi: [u8; 8], ram_len: usize) -> Config
-    ensures { λ c. ⌜ c ≡ configOf verify (recordOf r) udi «ram_len» ⌝ }
+fn config(r: Record, udi: [u8; 8], built_in: [u8; 32], ram_len: usize) -> Config
+    ensures { λ c. ⌜ c ≡ configOf (recordOf r) udi «built_in» «ram_len» ⌝ }
 {
-    let required = r.required;
+    let reset_type = r.reset_type;
     let measured_id = r.measured_id;
     Config {
         ram_len,
-        verify,
-        required,
+        verify: record::verifies(reset_type),
+        required: record::required(r, built_in),
         chained: r.reset_seed,
         measured_id,
         udi,
@@ -50,37 +44,43 @@ fn config(verify: bool, r: Record, udi: [u8; 8], ram_len: usize) -> Config
 
 // A session that waits for a load.
 fn wait(config: Config) -> Begun
-    ensures { λ r. ⌜ beginningOf r ≡ waitingWith config ⌝ }
+    ensures { λ r. ⌜ ((ram uds : List ℕ) → resultOf r ram uds ≡ waitingWith config ram uds) ⌝ }
 {
     let incoming = head::idle();
+    let progress = head::of_size(Phase::Waiting, 0);
     Begun {
         answer: Answer::Continue,
+        cdi: [0; 32],
+        digest: [0; 32],
         state: State {
             incoming,
             config,
-            progress: Progress {
-                phase: Phase::Waiting,
-                size: 0,
-                block: 0,
-                uss_used: false,
-                uss: [0; 32],
-            },
+            progress,
         },
     }
 }
 
 // What the record's type leads to.
-pub fn by_type(r: Record, udi: [u8; 8], ram_len: usize) -> Begun
-    ensures { λ b. ⌜ beginningOf b ≡ byType (typeNumber (r .«reset_type»)) (recordOf r) udi «ram_len» ⌝ }
+pub fn by_type<'a>(
+    r: Record,
+    udi: [u8; 8],
+    slot0: &'a [u8],
+    size0: usize,
+    slot1: &'a [u8],
+    size1: usize,
+    built_in: [u8; 32],
+    ram: &mut [u8],
+    uds: &mut [u32],
+) -> Begun
+    requires { ⌜ (length (now ram) ≤ longest) × (length (now uds) ≡ 8) ⌝ }
+    ensures { λ b. ⌜ resultOf b (now (ram .exit)) (now (uds .exit)) ≡ byType (recordOf r) udi (flashOf (now (slot0 .entry)) size0 (now (slot1 .entry)) size1 «built_in») (now (ram .entry)) (now (uds .entry)) ⌝ }
 {
+    let c = config(r, udi, built_in, ram.len());
     let reset_type = r.reset_type;
-    match reset_type {
-        ResetType::Flash0 => end(Answer::Stopped(Stop::NoFlash), ram_len),
-        ResetType::Flash1 => end(Answer::Stopped(Stop::NoFlash), ram_len),
-        ResetType::Flash0Ver => end(Answer::Stopped(Stop::NoFlash), ram_len),
-        ResetType::Flash1Ver => end(Answer::Stopped(Stop::NoFlash), ram_len),
-        ResetType::Client => wait(config(false, r, udi, ram_len)),
-        ResetType::ClientVer => wait(config(true, r, udi, ram_len)),
-        ResetType::Unknown => end(Answer::Stopped(Stop::UnknownType), ram_len),
+    match record::source(reset_type) {
+        Place::Slot0 => super::flash::boot(c, slot0, slot1, false, size0, ram, uds),
+        Place::Slot1 => super::flash::boot(c, slot0, slot1, true, size1, ram, uds),
+        Place::Client => wait(c),
+        Place::Unknown => super::starting::end(Answer::Stopped(Stop::UnknownType), c.ram_len),
     }
 }

@@ -2,11 +2,13 @@
 // Its state, its answers and what each call does are defined in `head`, whose types and whose `gather` stand here too.
 mod acting;
 mod beginning;
+mod flash;
 mod memory;
+mod starting;
 
 ghost use mathlib.Core.Path.{_≡_};
-ghost use Rattle.head.specs.Answers.{outcome};
-ghost use Rattle.head.specs.Begin.{beginningOf, beginning};
+ghost use Rattle.head.specs.Answers.{resultOf, outcome};
+ghost use Rattle.head.specs.Begin.{flashOf, beginning};
 ghost use Rattle.head.specs.Act.{acted};
 pub use head::Acted;
 use head::Admission;
@@ -25,19 +27,30 @@ pub use head::is_whole;
 pub use head::refusal_number;
 pub use head::stop_number;
 
-// Begins a session: from the reset record, the device's identity (UDI) and the length of the RAM that each `act` will be lent. After a
-// refusal or a stop every later call on the state is refused.
-pub fn begin(record: &[u8], udi: [u8; 8], ram_len: usize) -> Begun
-    ensures { λ r. ⌜ beginningOf r ≡ beginning (now («record» .entry)) udi «ram_len» ⌝ }
+// Begins: from the reset record, the device's identity (UDI), two slots of flash with the size of the program in each, and the digest that is
+// built in for type 0. Where the type asks for a client program, a session begins, whose calls of `act` are lent a RAM as long as this one.
+// Where it asks for one from flash, this call is the whole boot. After anything but `Continue` every later call on the state is refused, and
+// a refused call changes nothing.
+pub fn begin<'a>(
+    record: &[u8],
+    udi: [u8; 8],
+    slot0: &'a [u8],
+    size0: usize,
+    slot1: &'a [u8],
+    size1: usize,
+    built_in: [u8; 32],
+    ram: &mut [u8],
+    uds: &mut [u32],
+) -> Begun
+    ensures { λ r. ⌜ resultOf r (now (ram .exit)) (now (uds .exit)) ≡ beginning (now («record» .entry)) udi (flashOf (now (slot0 .entry)) size0 (now (slot1 .entry)) size1 «built_in») (now (ram .entry)) (now (uds .entry)) ⌝ }
 {
-    if record.len() != 256 {
-        return beginning::end(Answer::Refused(Refusal::RecordLength), 1);
+    match head::admit_begin(record.len(), ram.len(), uds.len()) {
+        Admission::Refused(why) => starting::end(Answer::Refused(why), 1),
+        Admission::Admitted => {
+            let r = record::read(beginning::record_bytes(record));
+            beginning::by_type(r, udi, slot0, size0, slot1, size1, built_in, ram, uds)
+        }
     }
-    if !protocol::length_ok(ram_len) {
-        return beginning::end(Answer::Refused(Refusal::RamSize), 1);
-    }
-    let bytes = beginning::record_bytes(record);
-    beginning::by_type(record::read(bytes), udi, ram_len)
 }
 
 // Acts on the frame that is whole: answers it, or starts the program or stops. A refused call changes nothing.

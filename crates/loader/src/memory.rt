@@ -2,7 +2,7 @@
 ghost use mathlib.Core.Path.{_≡_};
 ghost use mathlib.Core.List.{[]};
 ghost use Prim.Native.Nat.{_+_, _≤_};
-ghost use lib.ListN.{length, take};
+ghost use lib.ListN.{length};
 ghost use lib.Seq.{paste};
 ghost use Rattle.rfc7693.specs.Rfc7693.{blake2s};
 ghost use Rattle.endian.specs.Endian.{bytes};
@@ -13,7 +13,7 @@ use protocol::Frame;
 use protocol::Reply;
 
 // Copies src into dst from a place on.
-fn copy_to(dst: &mut [u8], at: usize, src: &[u8])
+pub fn copy_to(dst: &mut [u8], at: usize, src: &[u8])
     requires { ⌜ at + length (now src) ≤ length (now dst) ⌝ }
     ensures { λ _. ⌜ now (dst .exit) ≡ paste (now (dst .entry)) at (now (src .entry)) (length (now (src .entry))) ⌝ }
 {
@@ -44,14 +44,14 @@ pub fn store(ram: &mut [u8], f: Frame, size: u32, block: u32)
     copy_to(ram, at, &body[1..n + 1]);
 }
 
-// Measures the program: BLAKE2s-256 of the first n bytes of RAM.
-pub fn measure(ram: &[u8], n: usize) -> [u8; 32]
-    requires { ⌜ (n ≤ length (now ram)) × (n ≤ longest) ⌝ }
-    ensures { λ r. ⌜ r ≡ blake2s [] (take n (now (ram .entry))) 32 ⌝ }
+// Measures a program: BLAKE2s-256 of its bytes.
+pub fn measure(program: &[u8]) -> [u8; 32]
+    requires { ⌜ length (now program) ≤ longest ⌝ }
+    ensures { λ r. ⌜ r ≡ blake2s [] (now (program .entry)) 32 ⌝ }
 {
     let mut digest = [0u8; 32];
     let key = [0u8; 1];
-    blake2s::hash(&key[..0], &ram[..n], &mut digest);
+    blake2s::hash(&key[..0], program, &mut digest);
     digest
 }
 

@@ -8,6 +8,7 @@ use lib.Dec.{eqb, ltb}
 use lib.ListN.{length, take, drop, length-take, length-drop, drop-of-length-le}
 use lib.Seq.{take-all}
 use borrow.Author.Tests.{ne-eqb, lt-ltb, le-ltb, ltb-true, ltb-false}
+use Rattle.endian.specs.Lists.{zeros}
 use Rattle.head.specs.Answers.{Outcome}
 use Rattle.text.proofs.Proved.{texts}
 use Rattle.printer.specs.Lines.{waitingLine, errorLine}
@@ -36,7 +37,7 @@ long : (input : List ℕ) (m : ℕ) → 296 ≤ length input → length input < 
 unfolding output opening afterBegin
 long input m h l =
     let n : length (take 296 input) ≡ 296 = rw length-take (omega arith) in
-    rw (n, append-nil, le-ltb (length input) 296 h) (loop-is (drop 296 input) (afterBegin (take 296 input) m) 0 (begin-short (take 296 input) m) (rw length-drop (omega arith)))
+    rw (n, append-nil, le-ltb (length input) 296 h) (loop-is (drop 296 input) (afterBegin (take 296 input) (zeros m)) 0 (begin-short (take 296 input) (zeros m)) (rw length-drop (omega arith)))
 
 pub folds : (input : List ℕ) (m : ℕ) → length input < 2 ^ 64 → turns input m ≡ output input m
 folds input m l = go (ltb (length input) 296) refl

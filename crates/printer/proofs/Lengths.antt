@@ -4,19 +4,20 @@ use native.Mathlib.Omega.{arith}
 use mathlib.Core.Bool.{Bool, true, false, cond}
 use mathlib.Core.List.{List, [], _∷_, _++_}
 use lib.Dec.{eqb}
-use lib.ListN.{length, take, length-append, length-take}
+use lib.ListN.{length, take, drop, length-append, length-take}
 use Rattle.rfc7693.specs.Rfc7693.{blake2s}
 use Rattle.cdi.specs.Cdi.{cdiOf}
-use Rattle.head.specs.Answers.{Report, refused, continues, whole, stopped, started, reportsWhole, Outcome}
+use Rattle.head.specs.Answers.{Report, refused, continues, whole, stopped, started, reportsWhole, Result, Outcome, replied}
 use Rattle.head.specs.Gather.{gathered}
-use Rattle.head.specs.Act.{starting, acted}
+use Rattle.head.specs.Start.{starting}
+use Rattle.head.specs.Act.{acted}
 use Rattle.head.proofs.Ranges.{by-test}
-use Rattle.head.proofs.Ways.{by-act}
+use Rattle.head.proofs.Ways.{by-begin, by-act}
 use Rattle.head.specs.declared.State.{State}
 use Rattle.text.specs.Text.{hexOf, decimalOf}
 use Rattle.text.proofs.Proved.{texts}
 use Rattle.printer.specs.Lines.{replyLine, waitingLine, errorLine, endLine}
-use Rattle.printer.specs.Output.{afterBegin, afterByte, replyText, callText}
+use Rattle.printer.specs.Output.{wordsIn, noFlash, afterBegin, afterByte, replyText, callText}
 
 -- ---- the lines
 
@@ -58,9 +59,18 @@ call-short o s =
     let e = end-short (o .report) (o .cdi) (s .cdi) in
     rw (length-append (replyText (o .room) (o .reply)) (endLine (o .report) (o .cdi))) (omega arith)
 
-pub begin-short : (front : List ℕ) (m : ℕ) → Short (afterBegin front m)
-unfolding afterBegin
-begin-short front m = record { reply = omega arith; cdi = omega arith }
+pub begin-short : (front ram : List ℕ) → Short (afterBegin front ram)
+unfolding afterBegin starting cdiOf blake2s
+begin-short front ram =
+    by-begin (take 256 front) (drop 288 front) noFlash ram (wordsIn front) (λ (x : Result). Short (replied 0 [] x))
+    (record {
+      refused = λ k e n. record { reply = omega arith; cdi = omega arith };
+      wait = λ l. record { reply = omega arith; cdi = omega arith };
+      unknown = λ l. record { reply = omega arith; cdi = omega arith };
+      unfit = λ l. record { reply = omega arith; cdi = omega arith };
+      start = λ l x h. record { reply = omega arith; cdi = rw length-take (omega arith) };
+      fail = λ l x h. record { reply = omega arith; cdi = omega arith };
+    })
 
 act-short : (s : State) (room ram uds : List ℕ) → Short (acted s room ram uds)
 unfolding starting cdiOf blake2s

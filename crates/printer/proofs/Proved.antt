@@ -8,21 +8,22 @@ use Rattle.cdi.specs.Cdi.{cdiString, cdiOf}
 use Rattle.protocol.specs.Commands.{loadIn}
 use Rattle.protocol.specs.Replies.{replyHeader, putIn, nameReply, udiReply, loadReply, digestReply}
 use Rattle.head.specs.State.{inRange, ended}
-use Rattle.head.specs.Begin.{beginning}
+use Rattle.head.specs.Start.{starting, decided}
+use Rattle.head.specs.Begin.{fromFlash, beginning}
 use Rattle.head.specs.Gather.{byteStep, gatherRefusal, gathered}
-use Rattle.head.specs.Act.{loadAnswer, afterLoad, starting, finishedWith, actedBlock, actRefusal, acted}
+use Rattle.head.specs.Act.{loadAnswer, afterLoad, finishedWith, actedBlock, actRefusal, acted}
 use Rattle.text.specs.Text.{decimalOf}
 use Rattle.printer.specs.Output.{afterBegin, afterByte, output}
 use Rattle.printer.specs.Theorems.{Printer}
 use Rattle.printer.proofs.Folds.{folds}
 
 pub printer : Printer
-unfolding output decimalOf afterBegin afterByte beginning gatherRefusal gathered byteStep actRefusal acted inRange ended putIn recordAt word headerAt nameReply udiReply replyHeader headerByte loadIn loadAnswer loadReply afterLoad actedBlock finishedWith starting digestReply cdiString cdiOf rotr words firstBytes iv sigma added xorRotated G workVector round rounds F input blockAt blockCount leading compressions compressed initial blake2s
+unfolding output decimalOf afterBegin afterByte beginning fromFlash decided gatherRefusal gathered byteStep actRefusal acted inRange ended putIn recordAt word headerAt nameReply udiReply replyHeader headerByte loadIn loadAnswer loadReply afterLoad actedBlock finishedWith starting digestReply cdiString cdiOf rotr words firstBytes iv sigma added xorRotated G workVector round rounds F input blockAt blockCount leading compressions compressed initial blake2s
 printer = record {
   folds = folds;
   example = refl;
   start = refl;
-  stop-at-begin = refl;
+  stop-at-begin = (refl, (refl, (refl, (refl, tt))));
   stop-22 = refl;
   short = refl;
 }

@@ -7,8 +7,8 @@ use lib.Dec.{eqb, ltb}
 use lib.ListN.{length, take, drop}
 use Rattle.endian.specs.Lists.{each, zeros}
 use Rattle.endian.specs.Endian.{word}
-use Rattle.head.specs.Answers.{Report, refused, continues, whole, stopped, started, reportsWhole, Outcome}
-use Rattle.head.specs.Begin.{beginning}
+use Rattle.head.specs.Answers.{Report, refused, continues, whole, stopped, started, reportsWhole, Outcome, replied}
+use Rattle.head.specs.Begin.{Flash, flashOf, beginning}
 use Rattle.head.specs.Gather.{gathered}
 use Rattle.head.specs.Act.{plain, acted}
 use Rattle.head.specs.declared.State.{State}
@@ -18,11 +18,13 @@ use Rattle.printer.specs.Lines.{replyLine, waitingLine, errorLine, endLi
 abbrev pub wordsIn : List ℕ → List ℕ
 wordsIn front = each 8 (λ i. word front (256 + 4 * i))
 
--- begin on the first 296 bytes, as a call without a reply; RAM is m zeros
-unfoldable pub afterBegin : List ℕ → ℕ → Outcome
-afterBegin front m =
-    let b = beginning (take 256 front) (drop 288 front) m in
-    plain (b .report) 0 (b .state) [] (zeros m) (wordsIn front)
+-- empty slots of size 0: change request 3
+abbrev pub noFlash : Flash
+noFlash = flashOf [] 0 [] 0 (zeros 32)
+
+-- begin on the first 296 bytes, as a call without a reply
+unfoldable pub afterBegin : List ℕ → List ℕ → Outcome
+afterBegin front ram = replied 0 [] (beginning (take 256 front) (drop 288 front) noFlash ram (wordsIn front))
 
 -- a byte is gathered; a frame that is whole with it is acted on at once, with a reply room of 129 zeros, and otherwise there is no reply
 unfoldable pub afterByte : State → List ℕ → List ℕ → ℕ → Outcome
@@ -63,8 +65,8 @@ outputFrom o n (b ∷ bytes) =
     cond (isOver (o .report)) (record { printed = callText o; read = 296 + n })
     (behind (callText o) (outputFrom (afterByte (o .state) (o .uds) (o .ram) b) (n + 1) bytes))
 
--- the output of a head with m bytes of RAM; an input under 296 bytes prints only `E 1`
+-- the output of a head with m bytes of RAM, all zero; an input under 296 bytes prints only `E 1`
 unfoldable pub output : List ℕ → ℕ → Output
 output input m =
     cond (ltb (length input) 296) (record { printed = errorLine 1; read = length input })
-    (outputFrom (afterBegin (take 296 input) m) 0 (drop 296 input))
+    (outputFrom (afterBegin (take 296 input) (zeros m)) 0 (drop 296 input))

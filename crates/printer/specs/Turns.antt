@@ -6,9 +6,9 @@ use mathlib.Core.List.{List, [], _∷_, _++_}
 use lib.Dec.{eqb, ltb}
 use lib.ListN.{length, take, drop}
 use Rattle.endian.specs.Lists.{zeros, padded}
-use Rattle.head.specs.Answers.{Outcome}
+use Rattle.head.specs.Answers.{Report, Outcome}
 use Rattle.text.specs.Text.{textOf}
-use Rattle.printer.specs.Lines.{waitingLine, errorLine}
+use Rattle.printer.specs.Lines.{waitingLine, errorLine, endLine}
 use Rattle.printer.specs.Output.{afterBegin, afterByte, callText, isOver, Output, behind}
 use Rattle.printer.specs.declared.turns.Session.{Session}
 use Rattle.printer.specs.declared.turns.Next.{Next}
@@ -24,14 +24,22 @@ turnOf n o =
       over = isOver (o .report);
     }
 
+-- that of one without a reply
+abbrev pub silent : Session → Report → List ℕ → Turn
+silent s report cdi = record { session = s; text = textOf (endLine report cdi); over = isOver report }
+
 -- begin's turn, with all of the first 296 bytes
-abbrev pub beginTurn : List ℕ → ℕ → Turn
-beginTurn front m = turnOf 0 (afterBegin front m)
+abbrev pub beginTurn : List ℕ → List ℕ → Turn
+beginTurn front ram = turnOf 0 (afterBegin front ram)
 
 -- the first turn, with so many bytes got: under 296 there is no session
-unfoldable pub opening : List ℕ → ℕ → ℕ → Turn
-opening front got m =
-    cond (ltb got 296) (record { session = beginTurn front m .session; text = textOf (errorLine 1); over = true }) (beginTurn front m)
+unfoldable pub opening : List ℕ → ℕ → List ℕ → Turn
+opening front got ram =
+    cond (ltb got 296) (record { session = beginTurn front ram .session; text = textOf (errorLine 1); over = true }) (beginTurn front ram)
+
+-- and what RAM then holds
+abbrev pub openedRam : List ℕ → List ℕ → List ℕ
+openedRam front ram = afterBegin front ram .ram
 
 -- the input has ended
 abbrev pub waited : Session → Turn
@@ -68,4 +76,4 @@ loop t ram n (b ∷ bytes) =
 abbrev pub turns : List ℕ → ℕ → Output
 turns input m =
     let front = take 296 input in
-    loop (opening (padded 296 front) (length front) m) (zeros m) (length front) (drop 296 input)
+    loop (opening (padded 296 front) (length front) (zeros m)) (openedRam (padded 296 front) (zeros m)) (length front) (drop 296 input)

@@ -3,16 +3,17 @@ ghost use mathlib.Core.Path.{_≡_};
 ghost use Prim.Native.Nat.{_+_, _≤_};
 ghost use lib.ListN.{take, drop};
 ghost use Rattle.endian.specs.Endian.{word};
-ghost use Rattle.head.specs.Begin.{beginningOf, beginning};
-ghost use Rattle.printer.specs.Output.{wordsIn};
+ghost use Rattle.head.specs.Answers.{resultOf};
+ghost use Rattle.head.specs.Begin.{beginning};
+ghost use Rattle.printer.specs.Output.{noFlash, wordsIn};
 use loader::Begun;
 
-// Begins the session of this record and UDI.
-pub fn begin(front: [u8; 296], ram_len: usize) -> Begun
-    ensures { λ r. ⌜ beginningOf r ≡ beginning (take 256 front) (drop 288 front) «ram_len» ⌝ }
+// Begins with this record and UDI, and with nothing in flash.
+pub fn begin(front: [u8; 296], ram: &mut [u8], words: &mut [u32]) -> Begun
+    ensures { λ r. ⌜ resultOf r (now (ram .exit)) (now (words .exit)) ≡ beginning (take 256 front) (drop 288 front) noFlash (now (ram .entry)) (now (words .entry)) ⌝ }
 {
     let udi = udi_of(front);
-    loader::begin(&front[..256], udi, ram_len)
+    loader::begin(&front[..256], udi, b"", 0, b"", 0, [0; 32], ram, words)
 }
 
 fn udi_of(front: [u8; 296]) -> [u8; 8]

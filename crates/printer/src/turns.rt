@@ -1,12 +1,11 @@
 // A session from byte to byte, and what is printed of it.
 ghost use mathlib.Core.Path.{_≡_};
-ghost use mathlib.Core.List.{[]};
 ghost use Rattle.endian.specs.Lists.{zeros};
 ghost use Rattle.head.specs.Answers.{reportOf};
-ghost use Rattle.head.specs.Act.{plain, acted};
+ghost use Rattle.head.specs.Act.{acted};
 ghost use Rattle.text.specs.Text.{textOf};
 ghost use Rattle.printer.specs.Output.{replyText, isOver};
-ghost use Rattle.printer.specs.Turns.{turnOf, beginTurn, opening, turned, ramAfter, waited};
+ghost use Rattle.printer.specs.Turns.{turnOf, silent, beginTurn, opening, openedRam, turned, ramAfter, waited};
 ghost use Rattle.printer.specs.declared.turns.Next.the-variants as next;
 use super::input;
 use super::lines;
@@ -37,10 +36,11 @@ pub struct Turn {
 
 // The first turn: of the first 296 bytes of the input so many were got, and zeros stand for the others. Only a RAM that no head can have is
 // refused; document 01 has no line for that, and it is printed as `E 7`.
-pub fn open(front: [u8; 296], got: usize, ram_len: usize) -> Turn
-    ensures { λ r. ⌜ r ≡ opening front got «ram_len» ⌝ }
+pub fn open(front: [u8; 296], got: usize, ram: &mut [u8]) -> Turn
+    ensures turn { λ r. ⌜ r ≡ opening front got (now (ram .entry)) ⌝ }
+    ensures ram { λ r. ⌜ now (ram .exit) ≡ openedRam front (now (ram .entry)) ⌝ }
 {
-    let t = begin(front, ram_len);
+    let t = begin(front, ram);
     if got < 296 {
         let session = t.session;
         return Turn {
@@ -52,29 +52,31 @@ pub fn open(front: [u8; 296], got: usize, ram_len: usize) -> Turn
     t
 }
 
-// Begins a session with record, UDS and UDI.
-fn begin(front: [u8; 296], ram_len: usize) -> Turn
-    ensures { λ r. ⌜ r ≡ beginTurn front «ram_len» ⌝ }
+// Begins with record, UDS and UDI.
+fn begin(front: [u8; 296], ram: &mut [u8]) -> Turn
+    ensures turn { λ r. ⌜ r ≡ beginTurn front (now (ram .entry)) ⌝ }
+    ensures ram { λ r. ⌜ now (ram .exit) ≡ openedRam front (now (ram .entry)) ⌝ }
 {
-    let words = input::words_of(front);
-    let begun = input::begin(front, ram_len);
+    let mut words = input::words_of(front);
+    let begun = input::begin(front, ram, &mut words);
     let answer = begun.answer;
     let state = begun.state;
+    let cdi = begun.cdi;
     let session = Session {
         state,
         words,
         received: 0,
     };
-    without_reply(session, answer)
+    without_reply(session, answer, cdi)
 }
 
 // The turn of a call that has no reply.
-fn without_reply(session: Session, answer: Answer) -> Turn
-    ensures { λ r. ⌜ r ≡ turnOf (session .received) (plain (reportOf answer) 0 (session .state) [] [] (session .words)) ⌝ }
+fn without_reply(session: Session, answer: Answer, cdi: [u8; 32]) -> Turn
+    ensures { λ r. ⌜ r ≡ silent session (reportOf answer) cdi ⌝ }
 {
     Turn {
         session,
-        text: lines::end_line(text::empty(), answer, [0; 32]),
+        text: lines::end_line(text::empty(), answer, cdi),
         over: is_over(answer),
     }
 }
@@ -121,7 +123,7 @@ fn receive(s: Session, byte: u8, ram: &mut [u8]) -> Turn
         received: s.received + 1,
     };
     let Answer::Whole = answer else {
-        return without_reply(session, answer);
+        return without_reply(session, answer, [0; 32]);
     };
     act(session, ram)
 }

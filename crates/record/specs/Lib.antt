@@ -1,2 +1,3 @@
 pub mod Record
+pub mod Types
 pub mod Theorems

@@ -4,6 +4,7 @@ ghost use mathlib.Core.Path.{_≡_};
 ghost use Prim.Native.Nat.{_+_, _≤_};
 ghost use lib.ListN.{length, take, drop};
 ghost use Rattle.record.specs.Record.{typeNumber, knownType, recordOf, recordAt};
+ghost use Rattle.record.specs.Types.{sourceAt, sourceOf, verifies, requiredOf};
 
 // Which program a reset asks for.
 pub enum ResetType {
@@ -15,6 +16,16 @@ pub enum ResetType {
     Client,
     ClientVer,
     // A number that stands for no type.
+    Unknown,
+}
+
+// Where the program of a reset comes from.
+pub enum Place {
+    Slot0,
+    Slot1,
+    // A client sends it.
+    Client,
+    // The type is unknown.
     Unknown,
 }
 
@@ -63,5 +74,52 @@ pub fn read(bytes: [u8; 256]) -> Record
         reset_seed: mask % 2 == 1,
         required: part(&bytes, 8),
         measured_id: part(&bytes, 40),
+    }
+}
+
+// Where the program of a type comes from.
+pub fn source(t: ResetType) -> Place
+    ensures { λ r. ⌜ sourceAt r ≡ sourceOf (typeNumber t) ⌝ }
+{
+    match t {
+        ResetType::Flash0 => Place::Slot0,
+        ResetType::Flash1 => Place::Slot1,
+        ResetType::Flash0Ver => Place::Slot0,
+        ResetType::Flash1Ver => Place::Slot1,
+        ResetType::Client => Place::Client,
+        ResetType::ClientVer => Place::Client,
+        ResetType::Unknown => Place::Unknown,
+    }
+}
+
+// Whether the program of a type must have a digest.
+pub fn verifies(t: ResetType) -> bool
+    ensures { λ r. ⌜ r ≡ verifies (typeNumber t) ⌝ }
+{
+    match t {
+        ResetType::Flash0 => true,
+        ResetType::Flash1 => false,
+        ResetType::Flash0Ver => true,
+        ResetType::Flash1Ver => true,
+        ResetType::Client => false,
+        ResetType::ClientVer => true,
+        ResetType::Unknown => false,
+    }
+}
+
+// The digest that the program must have then: type 0's is built in, that of the others is the record's.
+pub fn required(r: Record, built_in: [u8; 32]) -> [u8; 32]
+    ensures { λ d. ⌜ d ≡ requiredOf (typeNumber (r .«reset_type»)) «built_in» (r .required) ⌝ }
+{
+    let t = r.reset_type;
+    let recorded = r.required;
+    match t {
+        ResetType::Flash0 => built_in,
+        ResetType::Flash1 => recorded,
+        ResetType::Flash0Ver => recorded,
+        ResetType::Flash1Ver => recorded,
+        ResetType::Client => recorded,
+        ResetType::ClientVer => recorded,
+        ResetType::Unknown => recorded,
     }
 }

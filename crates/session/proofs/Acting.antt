@@ -2,10 +2,9 @@
 use Prim.Native.Nat.{ℕ, suc, _+_, _*_, _<_, _≤_}
 use mathlib.Core.Path.{_≡_, refl, sym, ap, _∙_, subst}
 use mathlib.Core.Logic.{inl, inr, ⊎-elim}
-use mathlib.Core.Bool.{Bool, true, false, cond}
+use mathlib.Core.Bool.{Bool, true, false}
 use mathlib.Core.List.{List, [], _∷_, _++_, append-assoc, append-nil}
 use native.Mathlib.Omega.{arith}
-use lib.Dec.{eqb}
 use lib.ListN.{length, getD, take, drop, drop-of-length-le, length-append}
 use lib.Seq.{length-paste, take-paste, take-append-add, take-all}
 use borrow.Author.Tests.{eqb-true, eqb-false}
@@ -17,21 +16,22 @@ use Rattle.protocol.specs.Commands.{loadIn, goodLoad, usesUss, carriedBy, block
 use Rattle.protocol.specs.Replies.{sent, putIn, loadReply, blockReply, digestReply}
 use Rattle.protocol.specs.declared.Reply.{Reply}
 use Rattle.protocol.proofs.Proved.{protocol}
-use Rattle.record.specs.Record.{typeField, requiredField, fieldOf, numberIn, recordAt}
-use Rattle.endian.specs.Lists.{zeros, All, same}
+use Rattle.record.specs.Record.{recordAt}
+use Rattle.endian.specs.Lists.{zeros, All}
 use Rattle.head.specs.State.{idle, ended}
-use Rattle.endian.proofs.Same.{same-refl, same-eq}
-use Rattle.head.specs.Answers.{continues, stopped, started, Outcome}
-use Rattle.head.specs.Begin.{waiting, configOf}
-use Rattle.head.specs.Act.{Request, givesLoad, requestIn, frameIn, requestOf, storedIn, replying, loadAnswer, afterLoad, starting, allowed, finishedWith, actedBlock, performed}
+use Rattle.head.specs.Answers.{continues, stopped, started, Result, Outcome, replied}
+use Rattle.head.specs.Begin.{waiting}
+use Rattle.head.specs.Start.{allowed, starting, decided}
+use Rattle.head.specs.Act.{Request, givesLoad, requestIn, frameIn, requestOf, storedIn, replying, loadAnswer, afterLoad, finishedWith, actedBlock, performed}
 use Rattle.head.proofs.Ranges.{never, by-test, length-some}
-use Rattle.session.specs.Reading.{Good, forFirmware, bodyOf, QueryFrame, LoadFrame, Opens, BlockFrame, carried, sizeOf, programOf, digestOf, Allowed, chained, measuredId}
+use Rattle.session.specs.Reading.{Good, forFirmware, bodyOf, QueryFrame, LoadFrame, Opens, BlockFrame, carried, sizeOf, programOf, digestOf, chained, measuredId}
+use Rattle.session.specs.Session.{Reset}
+use Rattle.session.proofs.Resets.{AllowedOn, config, allows}
 use Rattle.session.proofs.Frames.{All-append, good-some}
 use Rattle.session.proofs.Gathering.{holding, length-snoc}
 use Rattle.session.proofs.Shapes.{AskedWaiting, asks-name, asks-udi, asks-load, asks-neither, asked-waiting, AskedLoading, asks-block, asks-no-block, asked-loading, Shape, one-shape, next-is, no-load, carried-snoc, carries-127, carried-length, load-size, All-last}
 use Rattle.head.specs.declared.Phase.the-variants as phase
 use Rattle.head.specs.declared.Incoming.{Incoming}
-use Rattle.head.specs.declared.Config.{Config}
 use Rattle.head.specs.declared.Progress.{Progress}
 use Rattle.head.specs.declared.State.{State}
 
@@ -47,38 +47,17 @@ grows m os hs g h =
     let u = one-shape m (g .opening) (h .opening) (g .load) (h .load) (g .blocks ++ hs) (h .blocks) (g .opens) (h .opens) (g .loads) (h .loads) e in
     (u .1, u .2)
 
-module _ (rec udi : List ℕ) (m : ℕ) where
-  abbrev pub config : Config
-  config = configOf (eqb (numberIn typeField rec) 5) (recordAt rec) udi m
+module _ (R : Reset) where
+  abbrev m : ℕ
+  m = length (R .ram)
 
   -- a head that goes on
   abbrev pub at : Incoming → Progress → State
-  at i p = record { incoming = i; config = config; progress = p }
+  at i p = record { incoming = i; config = config R; progress = p }
 
   -- with the load f, and k blocks
   abbrev pub loadedWith : List ℕ → ℕ → Progress
   loadedWith f k = record { phase = phase.Loading; size = sizeOf f; block = k; «uss_used» = usesUss (loadIn f); uss = loadIn f .uss }
-
-  -- the digest test
-  allows : (d : List ℕ) → allowed config d ≡ true → Allowed rec d
-  unfolding recordAt
-  allows d = go (eqb (numberIn typeField rec) 5) refl
-    where
-      go : (v : Bool) → eqb (numberIn typeField rec) 5 ≡ v → cond v (same d (fieldOf requiredField rec)) true ≡ true → Allowed rec d
-      go true p e t = same-eq d (fieldOf requiredField rec) e
-      go false p e t = absurd (eqb-false (numberIn typeField rec) 5 p t)
-
-  forbids : (d : List ℕ) → allowed config d ≡ false → Allowed rec d → ⊥
-  unfolding recordAt
-  forbids d = go (eqb (numberIn typeField rec) 5) refl
-    where
-      go : (v : Bool) → eqb (numberIn typeField rec) 5 ≡ v → cond v (same d (fieldOf requiredField rec)) true ≡ false → Allowed rec d → ⊥
-      go true p e a =
-          let q : d ≡ fieldOf requiredField rec = a (eqb-true (numberIn typeField rec) 5 p) in
-          let r = same-refl (fieldOf requiredField rec) in
-          let s : same d (fieldOf requiredField rec) ≡ true = rw q r in
-          never (sym s ∙ e)
-      go false p e a = never e
 
   -- the progress that frames for the firmware lead to, with RAM r
   pub data Doing (r : List ℕ) (os : List (List ℕ)) : Progress → Type 0 where
@@ -89,7 +68,7 @@ module _ (rec udi : List ℕ) (m : ℕ) where
   -- a shape that a start needs
   pub record Complete {os : List (List ℕ)} (g : Shape m os) : Type 0 where
     pub enough : length (g .blocks) ≡ blocksFor (sizeOf (g .load))
-    pub digest : Allowed rec (digestOf (g .load) (g .blocks))
+    pub digest : AllowedOn R (digestOf (g .load) (g .blocks))
 
   -- these frames are not yet those of a start
   pub not-yet : {r : List ℕ} {os : List (List ℕ)} {p : Progress} → Doing r os p → (g : Shape m os) → Complete g → ⊥
@@ -103,7 +82,7 @@ module _ (rec udi : List ℕ) (m : ℕ) where
   -- what a start leaves, for the load and the blocks of its session and the header of the last
   pub record Leaves (load : List ℕ) (blocks : List (List ℕ)) (header : ℕ) (room uds : List ℕ) (o : Outcome) : Type 0 where
     pub report : o .report ≡ started 0x40000000 (sizeOf load)
-    pub cdi : o .cdi ≡ blake2s [] (cdiString (bytes uds) (chained rec) (measuredId rec) (digestOf load blocks) (usesUss (loadIn load)) (loadIn load .uss)) 32
+    pub cdi : o .cdi ≡ blake2s [] (cdiString (bytes uds) (chained (R .rec)) (measuredId (R .rec)) (digestOf load blocks) (usesUss (loadIn load)) (loadIn load .uss)) 32
     pub digests : o .digest ≡ digestOf load blocks
     pub front : take (sizeOf load) (o .ram) ≡ programOf load blocks
     pub reply : o .reply ≡ 129
@@ -225,8 +204,12 @@ module _ (rec udi : List ℕ) (m : ℕ) where
         all-there : length (g .blocks ++ f ∷ []) ≡ blocksFor (sizeOf (g .load))
         all-there = counts ∙ sym (eqb-true (blocksFor (sizeOf (g .load))) (length (g .blocks) + 1) z)
 
-        -- where the digest differs, no more frames make a start
-        no-other : (Allowed rec (digestOf (g .load) (g .blocks ++ f ∷ [])) → ⊥) → (hs : List (List ℕ)) (h : Shape m (os ++ f ∷ hs)) → Complete h → ⊥
+        -- the digest of the program
+        abbrev whole-digest : List ℕ
+        whole-digest = digestOf (g .load) (g .blocks ++ f ∷ [])
+
+        -- where it is not allowed, no more frames make a start
+        no-other : (AllowedOn R whole-digest → ⊥) → (hs : List (List ℕ)) (h : Shape m (os ++ f ∷ hs)) → Complete h → ⊥
         no-other bar hs h c =
             let u = grows m os (f ∷ hs) g h in
             let a = all-there in
@@ -240,15 +223,16 @@ module _ (rec udi : List ℕ) (m : ℕ) where
             let same-blocks : g .blocks ++ f ∷ [] ≡ h .blocks = ap (λ (x : List (List ℕ)). g .blocks ++ f ∷ x) (sym none) ∙ u .1 in
             bar (rw (same-load, same-blocks) (c .digest))
 
-        acts-last : (d : List ℕ) → d ≡ digestOf (g .load) (g .blocks ++ f ∷ [])
-            → (i : Incoming) → i .header ≡ getD f 0 0
+        acts-last : (d : List ℕ) → d ≡ whole-digest → (i : Incoming) → i .header ≡ getD f 0 0
             → Acts room uds os f (finishedWith d (at i (loadedWith (g .load) (length (g .blocks)))) room ram-after uds)
-        unfolding finishedWith starting cdiOf recordAt
+        unfolding finishedWith decided starting cdiOf recordAt
         acts-last d e i h =
-            rw (e, h) (by-test (λ (o : Outcome). Acts room uds os f o) (allowed config (digestOf (g .load) (g .blocks ++ f ∷ []))) _ _
-            (λ t. starts more (record { enough = all-there; digest = allows _ t }) b
+            let x = allows R whole-digest in
+            let room1 = putIn room (sent (digestReply (getD f 0 0) whole-digest)) in
+            rw (e, h) (by-test (λ (r : Result). Acts room uds os f (replied 129 room1 r)) (allowed (config R) whole-digest) _ _
+            (λ t. starts more (record { enough = all-there; digest = x .0 t }) b
             (record { report = refl; cdi = refl; digests = refl; front = program-in; reply = refl; room-after = refl; cleared = refl; state = refl }))
-            (λ t. stops 25 refl refl (no-other (forbids _ t))))
+            (λ t. stops 25 refl refl (no-other (λ a. never (sym (x .1 a) ∙ t)))))
 
       acts-block : (i : Incoming) → i .header ∷ i .body ≡ f → i .header ≡ getD f 0 0
           → Acts room uds os f (actedBlock (at i (loadedWith (g .load) (length (g .blocks)))) room ram uds)

@@ -1,25 +1,30 @@
--- The state that a session begins with, and the table of refusals from it on.
-use Prim.Native.Nat.{ℕ, _≤_}
+-- What begin does and when, the state that a session begins with, and the table of refusals from it on.
+use Prim.Native.Nat.{ℕ, zero, suc, _≤_}
 use mathlib.Core.Path.{_≡_, refl, sym, ap, _∙_, subst}
 use mathlib.Core.Logic.{_↔_, _⊎_, inl, inr}
-use mathlib.Core.Bool.{Bool, true, false, not, cond, _||_, and-eq-true-iff}
+use mathlib.Core.Bool.{Bool, true, false, not, cond, _||_}
 use mathlib.Core.List.{List, [], _∷_, _++_, head-eq-of-cons-eq, tail-eq-of-cons-eq}
-use lib.Dec.{eqb, leb}
+use native.Mathlib.Omega.{arith}
+use lib.Dec.{eqb}
 use lib.ListN.{length}
-use borrow.Author.Tests.{eqb-true, leb-true}
+use borrow.Author.Tests.{eqb-true, eqb-false, eq-eqb, le-leb, le-ltb}
 use Rattle.endian.proofs.Cases.{impossible}
-use Rattle.record.specs.Record.{typeField, numberIn, recordAt}
-use Rattle.protocol.specs.Commands.{lengthOk}
-use Rattle.head.specs.State.{isWhole, inRange, live, idle, ended}
-use Rattle.head.specs.Answers.{Report, refused, continues, whole, stopped, started, Outcome}
-use Rattle.head.specs.Begin.{waiting, beginning}
+use Rattle.record.specs.Record.{knownType, recordAt}
+use Rattle.record.specs.Types.{sourceOf}
+use Rattle.protocol.specs.Replies.{putIn}
+use Rattle.head.specs.State.{isWhole, inRange, live, idle, ofSize, ended}
+use Rattle.head.specs.Answers.{Report, refused, continues, whole, stopped, started, Result, Outcome}
+use Rattle.head.specs.Start.{unstarted, ending, allowed, starting, decided}
+use Rattle.head.specs.Begin.{Flash, fits, configOf, waiting, waitingWith, fromFlash, bySource, byType, beginRefusal, beginning}
 use Rattle.head.specs.Theorems.{GatherProperties, ActProperties}
 use Rattle.head.specs.Gather.{gatherRefusal, gathered}
 use Rattle.head.specs.Act.{actRefusal, acted}
-use Rattle.head.proofs.Ranges.{never}
-use Rattle.head.proofs.Admitted.{act-admitted}
+use Rattle.head.proofs.Ranges.{never, by-test, fit-facts, length-facts}
+use Rattle.head.proofs.Admitted.{begin-admitted, act-admitted}
 use Rattle.head.proofs.Proved.{head-theorems}
-use Rattle.session.specs.Session.{Call, gather, act, Entry, acts, entryOf, callOf, reportIn, stateAfter, log, isAccepted, accepted, isEnd, hasEnded, completes, refusalIn}
+use Rattle.session.specs.Session.{Reset, begun, typeOf, AsksClient, Admitted, Call, gather, act, Entry, acts, entryOf, callOf, reportIn, stateAfter, log, isAccepted, accepted, isEnd, hasEnded, completes, refusalIn}
+use Rattle.session.specs.Boot.{digest, chosen, flashBasis, AsksFlash, Fits, FlashAllowed}
+use Rattle.session.proofs.Resets.{config, allows}
 use Rattle.session.proofs.Gathering.{is-part}
 use Rattle.session.proofs.Acting.{at}
 use Rattle.session.proofs.Entries.{lastFrom, numberOf, call-refuses, number-zero}
@@ -30,26 +35,192 @@ use Rattle.head.specs.declared.State.{State}
 
 -- ---- begin
 
-pub record Fresh (rec udi : List ℕ) (m : ℕ) : Type 0 where
-  pub state : beginning rec udi m .state ≡ at rec udi m idle waiting
-  pub size : length rec ≡ 256
-  pub some : 1 ≤ m
-  pub small : m ≤ 131072
+is-false : (t : Bool) → (t ≡ true → ⊥) → t ≡ false
+is-false true n = absurd (n refl)
+is-false false n = refl
 
-pub fresh : (rec udi : List ℕ) (m : ℕ) → isAccepted (beginning rec udi m .report) ≡ true → (numberIn typeField rec ≡ 4) ⊎ (numberIn typeField rec ≡ 5) → Fresh rec udi m
-unfolding beginning recordAt
-fresh rec udi m e t = go (eqb (length rec) 256) (lengthOk m) refl refl t
+-- by the type of the record, where a begin is not refused
+module _ (f : Flash) (c : Config) (ram uds : List ℕ) (P : Result → Type 0) where
+  by-type : (t : ℕ) → (t ≤ 3 → P (fromFlash (cond (eqb t 0 || eqb t 2) (f .slot0) (f .slot1)) c ram uds))
+      → ((t ≡ 4) ⊎ (t ≡ 5) → P (waitingWith c ram uds))
+      → (6 ≤ t → P (ending (stopped 20) (c .«ram_len») ram uds))
+      → P (bySource (sourceOf (knownType t)) f c ram uds)
+  by-type zero x y z = x (omega arith)
+  by-type (suc zero) x y z = x (omega arith)
+  by-type (suc (suc zero)) x y z = x (omega arith)
+  by-type (suc (suc (suc zero))) x y z = x (omega arith)
+  by-type (suc (suc (suc (suc zero)))) x y z = y (inl refl)
+  by-type (suc (suc (suc (suc (suc zero))))) x y z = y (inr refl)
+  by-type (suc (suc (suc (suc (suc (suc n)))))) x y z =
+      let h : 6 ≤ suc (suc (suc (suc (suc (suc n))))) = omega arith in
+      rw (le-ltb (suc (suc (suc (suc (suc (suc n)))))) 6 h) (z h)
+
+module _ (R : Reset) where
+  -- the number that begin is refused with, 0 for none
+  abbrev number : ℕ
+  number = beginRefusal (length (R .rec)) (length (R .ram)) (length (R .uds))
+
+  admitted : number ≡ 0 → Admitted R
+  admitted e =
+      let a = begin-admitted (length (R .rec)) (length (R .ram)) (length (R .uds)) e in
+      let b = length-facts (length (R .ram)) (a .2) in
+      record { eight = a .0; record-length = a .1; ram-some = b .0; ram-small = b .1 }
+
+  not-refused : Admitted R → number ≡ 0
+  not-refused a =
+      let m = length (R .ram) in
+      rw (eq-eqb (length (R .uds)) 8 (a .eight), eq-eqb (length (R .rec)) 256 (a .record-length), le-leb 1 m (a .ram-some), le-leb m 131072 (a .ram-small))
+
+  -- the size of the program in the chosen slot
+  abbrev fitting : Bool
+  fitting = fits (chosen R .size) (length (chosen R .bytes)) (length (R .ram))
+
+  pub does-fit : Fits R → fitting ≡ true
+  does-fit f =
+      let n = chosen R .size in
+      let some : 1 ≤ n = omega (arith, f .some) in
+      let in-slot : n ≤ length (chosen R .bytes) = omega (arith, f .in-slot) in
+      let in-ram : n ≤ length (R .ram) = omega (arith, f .in-ram) in
+      rw (le-leb 1 n some, le-leb n (length (chosen R .bytes)) in-slot, le-leb n (length (R .ram)) in-ram)
+
+  it-fits : fitting ≡ true → Fits R
+  it-fits e =
+      let g = fit-facts (chosen R .size) (length (chosen R .bytes)) (length (R .ram)) e in
+      record { some = omega (arith, g .0); in-slot = omega (arith, g .1); in-ram = omega (arith, g .2) }
+
+  -- what begin settles where it starts that program, and where it does not
+  abbrev pub booted : Result
+  booted = starting (config R) (ofSize phase.Loading (chosen R .size)) (digest (flashBasis R)) (putIn (R .ram) (flashBasis R .program)) (R .uds)
+
+  abbrev pub halted : ℕ → List ℕ → Result
+  halted k ram = ending (stopped k) (length (R .ram)) ram (R .uds)
+
+  -- what begin does, and when
+  pub data Begins : Result → Type 0 where
+    refuses : (k : ℕ) → (Admitted R → ⊥) → Begins (ending (refused k) 1 (R .ram) (R .uds))
+    waits : Admitted R → AsksClient R → Begins (waitingWith (config R) (R .ram) (R .uds))
+    boots : AsksFlash R → Fits R → FlashAllowed R → Begins booted
+    halts-20 : Admitted R → 6 ≤ typeOf R → Begins (halted 20 (R .ram))
+    halts-25 : AsksFlash R → Fits R → (FlashAllowed R → ⊥) → Begins (halted 25 (putIn (R .ram) (flashBasis R .program)))
+    halts-26 : AsksFlash R → (Fits R → ⊥) → Begins (halted 26 (R .ram))
+
+  flash-begins : AsksFlash R → Begins (fromFlash (chosen R) (config R) (R .ram) (R .uds))
+  unfolding fromFlash decided
+  flash-begins a =
+      let x = allows R (digest (flashBasis R)) in
+      by-test Begins fitting _ _
+      (λ f.
+      by-test Begins (allowed (config R) (digest (flashBasis R))) _ _
+      (λ t. boots a (it-fits f) (x .0 t))
+      (λ t. halts-25 a (it-fits f) (λ y. never (sym (x .1 y) ∙ t))))
+      (λ f. halts-26 a (λ y. never (sym (does-fit y) ∙ f)))
+
+  pub begins : Begins (begun R)
+  unfolding beginning recordAt
+  begins =
+      by-test Begins (eqb number 0) _ _
+      (λ z.
+      let a = admitted (eqb-true number 0 z) in
+      by-type (R .flash) (config R) (R .ram) (R .uds) Begins (typeOf R) (λ t. flash-begins (a, t)) (waits a) (halts-20 a))
+      (λ z. refuses number (λ a. eqb-false number 0 z (not-refused a)))
+
+  -- ---- and the same from what is asked for
+
+  admitted-begun : Admitted R → begun R ≡ bySource (sourceOf (knownType (typeOf R))) (R .flash) (config R) (R .ram) (R .uds)
+  unfolding beginning recordAt
+  admitted-begun a = rw (not-refused a)
+
+  by-kind : (x : Result) → Admitted R → (typeOf R ≤ 3 → fromFlash (chosen R) (config R) (R .ram) (R .uds) ≡ x)
+      → (AsksClient R → waitingWith (config R) (R .ram) (R .uds) ≡ x) → (6 ≤ typeOf R → halted 20 (R .ram) ≡ x) → begun R ≡ x
+  by-kind x a f w u = admitted-begun a ∙ by-type (R .flash) (config R) (R .ram) (R .uds) (λ (y : Result). y ≡ x) (typeOf R) f w u
+
+  no-client : typeOf R ≤ 3 → AsksClient R → ⊥
+  no-client h (inl e) = omega arith
+  no-client h (inr e) = omega arith
+
+  client-known : AsksClient R → typeOf R ≤ 5
+  client-known (inl e) = omega arith
+  client-known (inr e) = omega arith
+
+  pub client-waits : Admitted R → AsksClient R → begun R ≡ waitingWith (config R) (R .ram) (R .uds)
+  client-waits a c = by-kind _ a (λ t. absurd (no-client t c)) (λ d. refl) (λ t. let k = client-known c in absurd (omega arith))
+
+  pub unknown-halts : Admitted R → 6 ≤ typeOf R → begun R ≡ halted 20 (R .ram)
+  unknown-halts a u = by-kind _ a (λ t. absurd (omega arith)) (λ d. let k = client-known d in absurd (omega arith)) (λ t. refl)
+
+  flash-begun : AsksFlash R → begun R ≡ fromFlash (chosen R) (config R) (R .ram) (R .uds)
+  flash-begun a = by-kind _ (a .0) (λ t. refl) (λ c. absurd (no-client (a .1) c)) (λ t. let k = a .1 in absurd (omega arith))
+
+  pub flash-boots : AsksFlash R → Fits R → FlashAllowed R → begun R ≡ booted
+  unfolding fromFlash decided
+  flash-boots a f d = flash-begun a ∙ rw (does-fit f, allows R (digest (flashBasis R)) .1 d)
+
+  pub flash-differs : AsksFlash R → Fits R → (FlashAllowed R → ⊥) → begun R ≡ halted 25 (putIn (R .ram) (flashBasis R .program))
+  unfolding fromFlash decided
+  flash-differs a f n =
+      let e : allowed (config R) (digest (flashBasis R)) ≡ false = is-false _ (λ t. n (allows R (digest (flashBasis R)) .0 t)) in
+      flash-begun a ∙ rw (does-fit f, e)
+
+  pub flash-unfit : AsksFlash R → (Fits R → ⊥) → begun R ≡ halted 26 (R .ram)
+  unfolding fromFlash
+  flash-unfit a n = let e : fitting ≡ false = is-false _ (λ t. n (it-fits t)) in flash-begun a ∙ rw e
+
+-- the state that a session begins with
+pub record Fresh (R : Reset) : Type 0 where
+  pub state : begun R .state ≡ at R idle waiting
+  pub lent : Admitted R
+
+pub fresh : (R : Reset) → isAccepted (begun R .report) ≡ true → AsksClient R → Fresh R
+fresh R e c =
+    let a = go (begun R) (begins R) e in
+    record { state = ap (λ (y : Result). y .state) (client-waits R a c); lent = a }
   where
-    facts : eqb (length rec) 256 ≡ true → lengthOk m ≡ true → beginning rec udi m .state ≡ at rec udi m idle waiting → Fresh rec udi m
-    facts p q s =
-        let b = and-eq-true-iff (leb 1 m) (leb m 131072) .0 q in
-        record { state = s; size = eqb-true (length rec) 256 p; some = leb-true 1 m (b .0); small = leb-true m 131072 (b .1) }
+    go : (x : Result) → Begins R x → isAccepted (x .report) ≡ true → Admitted R
+    go x (refuses k n) e = never (sym e)
+    go x (waits a c) e = a
+    go x (boots a f d) e = a .0
+    go x (halts-20 a u) e = a
+    go x (halts-25 a f n) e = a .0
+    go x (halts-26 a n) e = a .0
 
-    go : (x y : Bool) → eqb (length rec) 256 ≡ x → lengthOk m ≡ y → (numberIn typeField rec ≡ 4) ⊎ (numberIn typeField rec ≡ 5) → Fresh rec udi m
-    go true true p q (inl f) = facts p q (rw (p, q, f))
-    go true true p q (inr f) = facts p q (rw (p, q, f))
-    go true false p q f = let z : isAccepted (beginning rec udi m .report) ≡ false = rw (p, q) in never (sym e ∙ z)
-    go false y p q f = let z : isAccepted (beginning rec udi m .report) ≡ false = rw p in never (sym e ∙ z)
+pub client-accepted : (R : Reset) → Admitted R → AsksClient R → isAccepted (begun R .report) ≡ true
+client-accepted R a c = ap (λ (y : Result). isAccepted (y .report)) (client-waits R a c)
+
+-- ---- where a client program is asked for
+
+-- the report and the state: nothing of flash is in them
+abbrev settled : List ℕ → List ℕ → ℕ → ℕ → Result
+settled rec udi m w =
+    let k = beginRefusal (length rec) m w in
+    cond (eqb k 0) (waitingWith (configOf (recordAt rec) udi [] m) [] []) (ending (refused k) 1 [] [])
+
+client-begun : (R : Reset) → AsksClient R
+    → let x = settled (R .rec) (R .udi) (length (R .ram)) (length (R .uds)) in begun R ≡ unstarted (x .report) (x .state) (R .ram) (R .uds)
+unfolding beginning recordAt
+client-begun R c = go (eqb (number R) 0) c
+  where
+    clientConfig : Config
+    clientConfig = configOf (recordAt (R .rec)) (R .udi) [] (length (R .ram))
+
+    go : (t : Bool) → AsksClient R
+        → let x : Result = cond t (waitingWith clientConfig [] []) (ending (refused (number R)) 1 [] []) in
+        cond t (byType (recordAt (R .rec)) (R .udi) (R .flash) (R .ram) (R .uds)) (ending (refused (number R)) 1 (R .ram) (R .uds))
+        ≡ unstarted (x .report) (x .state) (R .ram) (R .uds)
+    go true (inl e) = rw e refl
+    go true (inr e) = rw e refl
+    go false c = refl
+
+pub client-begins : (R : Reset) → AsksClient R → (begun R .ram ≡ R .ram) × (begun R .uds ≡ R .uds)
+    × ((R′ : Reset) → R′ .rec ≡ R .rec → R′ .udi ≡ R .udi → length (R′ .ram) ≡ length (R .ram) → length (R′ .uds) ≡ length (R .uds)
+    → (begun R′ .report ≡ begun R .report) × (begun R′ .state ≡ begun R .state) × (begun R′ .cdi ≡ begun R .cdi) × (begun R′ .digest ≡ begun R .digest))
+client-begins R c =
+    let b = client-begun R c in (
+      ap (λ (x : Result). x .ram) b,
+      ap (λ (x : Result). x .uds) b,
+      λ R′ er eu em ew.
+          let c′ : AsksClient R′ = rw er c in
+          rw (client-begun R′ c′, b, er, eu, em, ew) (refl, refl, refl, refl),
+    )
 
 -- ---- refusals
 

@@ -17,8 +17,9 @@ use Rattle.head.proofs.Ranges.{never}
 use Rattle.head.proofs.Admitted.{gather-admitted-as, act-admitted, act-admitted-as}
 use Rattle.endian.specs.Lists.{All}
 use Rattle.session.specs.Reading.{Good, forFirmware, own, sizeOf, Starting}
-use Rattle.session.specs.Session.{Loan}
+use Rattle.session.specs.Session.{Reset, Loan}
 use Rattle.session.specs.Boot.{EndsWhole}
+use Rattle.session.proofs.Resets.{ReadsOn}
 use Rattle.session.proofs.Frames.{All-append, own-append, flatten-snoc, own-more, own-same, last-same, same-size, Further, reads-on, good-some}
 use Rattle.session.proofs.Gathering.{holding, Partial, is-part, is-whole, Gathers, at-bad, at-part, at-passed, at-whole, length-snoc, gathers}
 use Rattle.session.proofs.Shapes.{Shape, All-last}
@@ -65,7 +66,7 @@ none-after (x ∷ xs) ys [] l e o n =
 none-after (x ∷ xs) ys (b ∷ before) l e o n = none-after xs ys before l (tail-eq-of-cons-eq e) o n
 
 -- a start's bytes end in a whole frame
-abbrev pub ends-whole : {rec : List ℕ} {m : ℕ} {bs : List ℕ} → Starting rec m bs → EndsWhole bs
+abbrev pub ends-whole : {rec builtIn : List ℕ} {m : ℕ} {bs : List ℕ} → Starting rec builtIn m bs → EndsWhole bs
 ends-whole w = record { before = w .before; last = w .last; all-good = w .all-good; nothing-left = w .nothing-left; last-own = w .last-own }
 
 -- bytes that go on after whole frames, and end in one
@@ -75,7 +76,10 @@ further bs rest fs part a e w =
     reads-on fs (w .before ++ w .last ∷ []) (part ++ rest) a (w .all-good)
     (sym (append-assoc (flatten fs) part rest) ∙ ap (λ (x : List ℕ). x ++ rest) (sym e) ∙ w .nothing-left)
 
-module _ (rec udi : List ℕ) (m : ℕ) where
+module _ (R : Reset) where
+  abbrev m : ℕ
+  m = length (R .ram)
+
   -- bs are the accepted bytes so far, os the frames that were acted on, and r is the RAM that the last accepted acting left; no frame is whole
   pub record Live (os : List (List ℕ)) (bs : List ℕ) (s : State) (r : List ℕ) : Type 0 where
     pub frames : List (List ℕ)
@@ -85,8 +89,8 @@ module _ (rec udi : List ℕ) (m : ℕ) where
     pub partial : Partial part
     pub owned : own frames ≡ os
     pub progress : Progress
-    pub state : s ≡ at rec udi m (holding part) progress
-    pub doing : Doing rec udi m r os progress
+    pub state : s ≡ at R (holding part) progress
+    pub doing : Doing R r os progress
 
   -- the frame f for the firmware is whole, and was not acted on
   pub record Full (os : List (List ℕ)) (f bs : List ℕ) (s : State) (r : List ℕ) : Type 0 where
@@ -96,8 +100,8 @@ module _ (rec udi : List ℕ) (m : ℕ) where
     pub last-own : forFirmware f ≡ true
     pub owned : own frames ≡ os
     pub progress : Progress
-    pub state : s ≡ at rec udi m (holding f) progress
-    pub doing : Doing rec udi m r os progress
+    pub state : s ≡ at R (holding f) progress
+    pub doing : Doing R r os progress
 
   pub not-whole : {os : List (List ℕ)} {bs : List ℕ} {s : State} {r : List ℕ} → Live os bs s r → isWhole (s .incoming) ≡ false
   not-whole v = ap (λ (s : State). isWhole (s .incoming)) (v .state) ∙ is-part (v .part) (v .partial)
@@ -106,7 +110,7 @@ module _ (rec udi : List ℕ) (m : ℕ) where
   now-whole {f = f} v =
       ap (λ (s : State). isWhole (s .incoming)) (v .state) ∙ is-whole f (All-last Good (v .frames) f [] (v .all-good)) (v .last-own)
 
-  abbrev shape-of : {bs : List ℕ} (w : Starting rec m bs) (os : List (List ℕ)) → os ≡ own (w .before ++ w .last ∷ []) → Shape m os
+  abbrev shape-of : {bs : List ℕ} (w : ReadsOn R bs) (os : List (List ℕ)) → os ≡ own (w .before ++ w .last ∷ []) → Shape m os
   shape-of w os e = record { opening = w .opening; load = w .load; blocks = w .blocks; order = e ∙ w .order; opens = w .opens; loads = w .loads; carry = w .carry }
 
   -- where the bytes end in a whole frame, these are all its frames, and no part is left
@@ -118,10 +122,10 @@ module _ (rec udi : List ℕ) (m : ℕ) where
       let n = none-partial (v .part) (u .rest) (v .partial) (u .all-good) (u .bytes) in
       (u .frames ∙ ap (λ (x : List (List ℕ)). v .frames ++ x) n ∙ append-nil (v .frames), u .bytes ∙ ap flatten n)
 
-  pub not-live : {os : List (List ℕ)} {bs : List ℕ} {s : State} {r : List ℕ} → Live os bs s r → Starting rec m bs → ⊥
+  pub not-live : {os : List (List ℕ)} {bs : List ℕ} {s : State} {r : List ℕ} → Live os bs s r → ReadsOn R bs → ⊥
   not-live {os = os} v w =
       let e : os ≡ own (w .before ++ w .last ∷ []) = sym (v .owned) ∙ ap own (sym (only-frames v (ends-whole w) .0)) in
-      not-yet rec udi m (v .doing) (shape-of w os e) (record { enough = w .enough; digest = w .allowed })
+      not-yet R (v .doing) (shape-of w os e) (record { enough = w .enough; digest = w .allowed })
 
   -- ---- a gathering
 
@@ -153,13 +157,13 @@ module _ (rec udi : List ℕ) (m : ℕ) where
     all-good : Good byte-in → All Good (v .frames ++ byte-in ∷ [])
     all-good g = All-append Good (v .frames) (byte-in ∷ []) (v .all-good) (g, tt)
 
-    gathered-after : (x : Step) → Gathers (v .part) b x → AfterGather os (bs ++ b ∷ []) r (afterStep x (at rec udi m (holding (v .part)) (v .progress)))
+    gathered-after : (x : Step) → Gathers (v .part) b x → AfterGather os (bs ++ b ∷ []) r (afterStep x (at R (holding (v .part)) (v .progress)))
     gathered-after x (at-bad p e q) =
         rw q (bad-header refl refl (λ rest w.
         let u = further (bs ++ b ∷ []) rest (v .frames) (b ∷ []) (v .all-good) (longer ∙ ap (λ (y : List ℕ). flatten (v .frames) ++ (y ++ b ∷ [])) p) w in
         no-bad b rest (u .rest) e (u .all-good) (u .bytes)))
     gathered-after x (at-part p q) =
-        let u : Live os (bs ++ b ∷ []) (at rec udi m (holding byte-in) (v .progress)) r =
+        let u : Live os (bs ++ b ∷ []) (at R (holding byte-in) (v .progress)) r =
         record {
           frames = v .frames;
           part = byte-in;
@@ -176,7 +180,7 @@ module _ (rec udi : List ℕ) (m : ℕ) where
         let l = length-snoc (v .part) b in
         omega arith))
     gathered-after x (at-passed g n q) =
-        let u : Live os (bs ++ b ∷ []) (at rec udi m idle (v .progress)) r =
+        let u : Live os (bs ++ b ∷ []) (at R idle (v .progress)) r =
         record {
           frames = v .frames ++ byte-in ∷ [];
           part = [];
@@ -212,10 +216,10 @@ module _ (rec udi : List ℕ) (m : ℕ) where
   -- ---- an acting
 
   pub data AfterAct (os : List (List ℕ)) (f bs : List ℕ) (l : Loan) (o : Outcome) : Type 0 where
-    goes-on : o .report ≡ continues → Live (os ++ f ∷ []) bs (o .state) (o .ram) → length (o .ram) ≡ m → Replies rec udi m (l .room) f o → AfterAct os f bs l o
-    has-started : (w : Starting rec m bs) → Leaves rec udi m (w .load) (w .blocks) (getD (w .last) 0 0) (l .room) (l .uds) o
-        → ((rest : List ℕ) → Starting rec m (bs ++ rest) → rest ≡ []) → AfterAct os f bs l o
-    has-stopped : (k : ℕ) → o .report ≡ stopped k → o .state ≡ ended phase.Stopped m → ((rest : List ℕ) → Starting rec m (bs ++ rest) → ⊥) → AfterAct os f bs l o
+    goes-on : o .report ≡ continues → Live (os ++ f ∷ []) bs (o .state) (o .ram) → length (o .ram) ≡ m → Replies R (l .room) f o → AfterAct os f bs l o
+    has-started : (w : ReadsOn R bs) → Leaves R (w .load) (w .blocks) (getD (w .last) 0 0) (l .room) (l .uds) o
+        → ((rest : List ℕ) → ReadsOn R (bs ++ rest) → rest ≡ []) → AfterAct os f bs l o
+    has-stopped : (k : ℕ) → o .report ≡ stopped k → o .state ≡ ended phase.Stopped m → ((rest : List ℕ) → ReadsOn R (bs ++ rest) → ⊥) → AfterAct os f bs l o
 
   module _ (os : List (List ℕ)) (f bs : List ℕ) (s : State) (l : Loan) (v : Full os f bs s (l .ram)) where
     whole-nil : bs ≡ flatten (v .frames ++ f ∷ []) ++ []
@@ -225,7 +229,7 @@ module _ (rec udi : List ℕ) (m : ℕ) where
     own-all = own-more (v .frames) f (v .last-own) ∙ ap (λ (x : List (List ℕ)). x ++ f ∷ []) (v .owned)
 
     -- the frames after these, when the bytes go on as those of a start
-    module _ (rest : List ℕ) (w : Starting rec m (bs ++ rest)) where
+    module _ (rest : List ℕ) (w : ReadsOn R (bs ++ rest)) where
       abbrev on : Further (v .frames ++ f ∷ []) (w .before ++ w .last ∷ []) rest
       on = further bs rest (v .frames ++ f ∷ []) [] (v .all-good) whole-nil (ends-whole w)
 
@@ -233,7 +237,7 @@ module _ (rec udi : List ℕ) (m : ℕ) where
       own-further =
           ap (λ (x : List (List ℕ)). x ++ own (on .rest)) (sym own-all) ∙ sym (own-append (v .frames ++ f ∷ []) (on .rest)) ∙ ap own (sym (on .frames))
 
-      last-start : (h : Shape m (os ++ f ∷ [])) → Complete rec udi m h → rest ≡ []
+      last-start : (h : Shape m (os ++ f ∷ [])) → Complete R h → rest ≡ []
       unfolding flatten
       last-start h k =
           let t = grows m (os ++ f ∷ []) (own (on .rest)) h (shape-of w _ own-further) in
@@ -242,7 +246,7 @@ module _ (rec udi : List ℕ) (m : ℕ) where
           let n : own (on .rest) ≡ [] = empty-rest (own (on .rest)) (omega (arith, k .enough, w .enough)) in
           on .bytes ∙ ap flatten (none-after (v .frames ++ f ∷ []) (on .rest) (w .before) (w .last) (on .frames) (w .last-own) n)
 
-    acted-after : (o : Outcome) → Acts rec udi m (l .room) (l .uds) os f o → AfterAct os f bs l o
+    acted-after : (o : Outcome) → Acts R (l .room) (l .uds) os f o → AfterAct os f bs l o
     acted-after o (goes r p q d n a) =
         goes-on r
         (record {
@@ -284,4 +288,4 @@ module _ (rec udi : List ℕ) (m : ℕ) where
         let fits = act-admitted s (length (l .room)) (length (l .ram)) (length (l .uds)) z .ram-same ∙ ap (λ (t : State). t .config .«ram_len») (v .state) in
         subst (AfterAct os f bs l) (act-admitted-as s (l .room) (l .ram) (l .uds) (sym z))
         (subst (λ (t : State). AfterAct os f bs l (performed (requestOf t) t (l .room) (l .ram) (l .uds))) (sym (v .state))
-        (acted-after _ (acts rec udi m (l .room) (l .ram) (l .uds) fits os f (v .last-own) (All-last Good (v .frames) f [] (v .all-good)) (v .progress) (v .doing))))
+        (acted-after _ (acts R (l .room) (l .ram) (l .uds) fits os f (v .last-own) (All-last Good (v .frames) f [] (v .all-good)) (v .progress) (v .doing))))

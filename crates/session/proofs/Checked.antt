@@ -16,10 +16,12 @@ use Rattle.head.specs.Gather.{Step, taken, byteStep, gatherRefusal, gathered}
 use Rattle.head.proofs.Admitted.{gather-admitted-as}
 use Rattle.head.proofs.Ranges.{never}
 use Rattle.head.proofs.Proved.{head-theorems}
+use Rattle.session.specs.Session.{Reset}
 use Rattle.session.specs.Checklist.{Begun, PassedOver, Checklist}
 use Rattle.session.proofs.Gathering.{holding, Partial, is-part, Gathers, at-bad, at-part, at-passed, at-whole, gathers, length-snoc}
 use Rattle.session.proofs.Frames.{same-size}
 use Rattle.session.proofs.Acting.{empty-rest, at}
+use Rattle.session.proofs.Ranges.{ranges}
 use Rattle.session.proofs.Begins.{Fresh, fresh}
 use Rattle.head.specs.declared.State.{State}
 
@@ -27,10 +29,10 @@ header-1b : headerAt 0x1b ≡ good 0 3 128
 unfolding headerAt
 header-1b = refl
 
-module _ (rec udi : List ℕ) (m : ℕ) where
+module _ (R : Reset) where
   -- a head that waits for a load, of which the part p of a frame has come
   abbrev holds : List ℕ → State
-  holds p = at rec udi m (holding p) waiting
+  holds p = at R (holding p) waiting
 
   not-refused : (p : List ℕ) → Partial p → inRange (holds p) ≡ true → gatherRefusal (holds p) ≡ 0
   unfolding gatherRefusal
@@ -84,20 +86,20 @@ module _ (rec udi : List ℕ) (m : ℕ) where
   halts b k r e = ap (λ (x : Gathering). x .report) (sym (gather-admitted-as (holds []) b (sym (not-refused [] tt r)))) ∙ rw e
 
 module _ (s : State) (b : Begun s) where
-  begins : Fresh (b .rec) (b .udi) (b .ramLen)
-  begins = fresh (b .rec) (b .udi) (b .ramLen) (b .begins) (b .client)
+  begins : Fresh (b .reset)
+  begins = fresh (b .reset) (b .begins) (b .client)
 
-  state-is : s ≡ holds (b .rec) (b .udi) (b .ramLen) []
+  state-is : s ≡ holds (b .reset) []
   state-is = b .state ∙ begins .state
 
-  ranges : inRange (holds (b .rec) (b .udi) (b .ramLen) []) ≡ true
-  ranges = subst (λ (s : State). inRange s ≡ true) (begins .state) (head-theorems .begun (b .rec) (b .udi) (b .ramLen))
+  in-range : inRange (holds (b .reset) []) ≡ true
+  in-range = subst (λ (s : State). inRange s ≡ true) (begins .state) (ranges (b .reset) [] .begun)
 
   passed-over : (bs : List ℕ) → length bs ≡ 128 → PassedOver (0x1b ∷ bs) s s
-  passed-over bs l = subst (λ (x : State). PassedOver (0x1b ∷ bs) x x) (sym state-is) (frame (b .rec) (b .udi) (b .ramLen) bs l ranges)
+  passed-over bs l = subst (λ (x : State). PassedOver (0x1b ∷ bs) x x) (sym state-is) (frame (b .reset) bs l in-range)
 
   bad-header : (x k : ℕ) → headerAt x ≡ stop k → gathered s x .report ≡ stopped 22
-  bad-header x k e = rw state-is (halts (b .rec) (b .udi) (b .ramLen) x k ranges e)
+  bad-header x k e = rw state-is (halts (b .reset) x k in-range e)
 
 pub checklist : Checklist
 unfolding headerAt

@@ -28,10 +28,11 @@ use Rattle.client.proofs.Proved.{client}
 use Rattle.client.specs.declared.Secret.{Secret}
 use Rattle.upload.proofs.Proved.{uploads}
 use Rattle.upload.proofs.Jobs.{job-is}
-use Rattle.session.specs.Reading.{bodyOf, sizeOf, programOf, digestOf, Allowed, chained, measuredId, Starting}
-use Rattle.session.specs.Session.{Loan, Call, gather, act, Entry, gathers, acts, reportIn, log, isAccepted, accepted, gatheredBytes, OneRam, Session, allOf, acceptedOf, isEnd, isActing}
+use Rattle.session.specs.Reading.{bodyOf, sizeOf, programOf, digestOf, chained, measuredId}
+use Rattle.session.specs.Session.{Reset, Loan, Call, gather, act, Entry, gathers, acts, reportIn, log, isAccepted, accepted, gatheredBytes, OneRam, Session, allOf, acceptedOf, isEnd, isActing}
 use Rattle.session.specs.Boot.{Start}
 use Rattle.session.specs.Client.{actings, frame, framesTo, frames, programDigest, Made, ReceivesFrames, Replied, Loads, ClientLoad}
+use Rattle.session.proofs.Resets.{ReadsOn, AllowedOn}
 use Rattle.session.proofs.Acting.{Leaves, ReplyTo, to-query, to-load, to-block, Replies}
 use Rattle.session.proofs.Strings.{digest-length}
 use Rattle.session.proofs.Proved.{one-reading, one-last, first-live, begins, gives, session, sent-accepted, all-acted}
@@ -87,21 +88,22 @@ module _ (prog : List ℕ) (id : ℕ) (secret : Secret) (makes : Made prog id se
   command-of : (k : ℕ) → commandIn (frame prog id secret (suc k)) ≡ 5
   command-of k = ap commandIn (made.frame-suc prog id secret makes k) ∙ made.is-block prog id secret makes k .1
 
-  module _ (m : ℕ) (fits : n ≤ m) where
+  module _ (R : Reset) (fits : n ≤ length (R .ram)) where
     -- while the session goes on: the reply to frame k, which is not the last
-    reply-taken : (rec udi : List ℕ) (k : ℕ) → k < blocksFor n → (f : List ℕ) → f ≡ frame prog id secret k → (r : Reply) → ReplyTo rec udi m f r
+    reply-taken : (k : ℕ) → k < blocksFor n → (f : List ℕ) → f ≡ frame prog id secret k → (r : Reply) → ReplyTo R f r
         → Framed r × (taking n id k (sent r) ≡ takingAs 0 0 (replicate 32 0))
-    reply-taken rec udi k h f e r (to-query q s) =
+    reply-taken k h f e r (to-query q s) =
         absurd (let w = ap length e ∙ made.whole prog id secret makes k in let d : length (bodyOf f) ≡ 1 = q .0 in omega (arith, length-drop 1 f))
-    reply-taken rec udi zero h f e r (to-load l a ea g eg) =
+    reply-taken zero h f e r (to-load l a ea g eg) =
         let b : a ≡ commandHeader id = ea ∙ ap (λ (x : List ℕ). getD x 0 0) e in
+        let m = length (R .ram) in
         let t : g ≡ true = eg ∙ ap (λ (x : List ℕ). goodLoad m (loadIn x)) e ∙ made.load-good prog id secret makes m fits .1 in
         rw (b, t) (protocol .lengths (commandHeader id) [] [] true .2, client .to-load n id true (makes .accepted))
-    reply-taken rec udi (suc k) h f e r (to-load l a ea g eg) =
+    reply-taken (suc k) h f e r (to-load l a ea g eg) =
         absurd (let c : commandIn f ≡ 5 = ap commandIn e ∙ command-of k in let d : commandIn f ≡ 3 = l .1 in omega arith)
-    reply-taken rec udi zero h f e r (to-block b a ea) =
+    reply-taken zero h f e r (to-block b a ea) =
         absurd (let c : commandIn f ≡ 3 = ap commandIn e ∙ made.is-load prog id secret makes .1 in let d : commandIn f ≡ 5 = b .1 in omega arith)
-    reply-taken rec udi (suc k) h f e r (to-block b a ea) =
+    reply-taken (suc k) h f e r (to-block b a ea) =
         let q : a ≡ commandHeader id = ea ∙ ap (λ (x : List ℕ). getD x 0 0) e in
         let s : suc k - 1 + 1 ≡ suc k = omega arith in
         rw q (
@@ -109,10 +111,10 @@ module _ (prog : List ℕ) (id : ℕ) (secret : Secret) (makes : Made prog id se
           client .to-block n id (suc k) (not-refused (suc k) (omega arith)) (omega arith) (ne-eqb (blocksFor n) (suc k - 1 + 1) (λ z. omega arith)),
         )
 
-    replied : (rec udi : List ℕ) (k : ℕ) → k < blocksFor n → (f bs room : List ℕ) (o : Outcome) → f ≡ frame prog id secret k
-        → bs ≡ flatten (framesTo prog id secret (suc k)) → Replies rec udi m room f o → Replied prog id secret k bs o
-    replied rec udi k h f bs room o e w r =
-        let x = reply-taken rec udi k h f e (r .is) (r .reply-to) in
+    replied : (k : ℕ) → k < blocksFor n → (f bs room : List ℕ) (o : Outcome) → f ≡ frame prog id secret k
+        → bs ≡ flatten (framesTo prog id secret (suc k)) → Replies R room f o → Replied prog id secret k bs o
+    replied k h f bs room o e w r =
+        let x = reply-taken k h f e (r .is) (r .reply-to) in
         record {
           frame-whole = w;
           taken = ap (taking n id k) (front room (r .is) o (x .0) (r .reply) (r .room-after)) ∙ x .1 ∙ ap (takingAs 0 0) (sym (digest-none prog id secret k h));
@@ -138,37 +140,37 @@ module _ (prog : List ℕ) (id : ℕ) (secret : Secret) (makes : Made prog id se
 
   -- ---- each call in turn
 
-  module _ (rec udi : List ℕ) (m : ℕ) (fits : n ≤ m) (allows : Allowed rec (programDigest prog id secret)) where
-    reading : (received : List ℕ) → received ≡ flatten (frames prog id secret) → Starting rec m received
-    reading = made.reading prog id secret makes rec m fits allows
+  module _ (R : Reset) (fits : n ≤ length (R .ram)) (allows : AllowedOn R (programDigest prog id secret)) where
+    reading : (received : List ℕ) → received ≡ flatten (frames prog id secret) → ReadsOn R received
+    reading = made.reading prog id secret makes R fits allows
 
     -- the reply of a start
     start-replied : (k : ℕ) → k ≡ blocksFor n → (bs : List ℕ) (l : Loan) (o : Outcome) → bs ≡ flatten (framesTo prog id secret (suc k))
-        → (w : Starting rec m bs) → Leaves rec udi m (w .load) (w .blocks) (getD (w .last) 0 0) (l .room) (l .uds) o → Replied prog id secret k bs o
+        → (w : ReadsOn R bs) → Leaves R (w .load) (w .blocks) (getD (w .last) 0 0) (l .room) (l .uds) o → Replied prog id secret k bs o
     unfolding reading
     start-replied k ek bs l o e w x =
         let all : bs ≡ flatten (frames prog id secret) = e ∙ ap (λ (i : ℕ). flatten (framesTo prog id secret (suc i))) ek in
         let ours = reading bs all in
-        let one = one-reading rec m bs w ours in
+        let one = one-reading R bs w ours in
         let h : getD (w .last) 0 0 ≡ commandHeader id =
-        ap (λ (f : List ℕ). getD f 0 0) (one-last rec m bs w ours) ∙ made.reading-last prog id secret makes rec m fits allows _ all in
+        ap (λ (f : List ℕ). getD f 0 0) (one-last R bs w ours) ∙ made.reading-last prog id secret makes R fits allows _ all in
         let d : digestOf (w .load) (w .blocks) ≡ programDigest prog id secret =
         ap (λ (f : List ℕ). digestOf f (w .blocks)) (one .1) ∙ ap (λ (f : List (List ℕ)). digestOf (ours .load) f) (one .2)
-        ∙ ap (λ (x : List ℕ). blake2s [] x 32) (made.reading-program prog id secret makes rec m fits allows _ all) in
+        ∙ ap (λ (x : List ℕ). blake2s [] x 32) (made.reading-program prog id secret makes R fits allows _ all) in
         last-replied k ek bs (l .room) o e (getD (w .last) 0 0) (digestOf (w .load) (w .blocks)) h d (x .reply) (x .room-after)
 
     -- calls after k actings, where bs was gathered and the frames go on
     abbrev Traced : List Call → Type 0
-    Traced cs = (k : ℕ) (acting : Bool) (bs : List ℕ) (s : State) (r : List ℕ) → Stands rec udi m (framesTo prog id secret k) bs s r acting → OneRam r (log s cs)
+    Traced cs = (k : ℕ) (acting : Bool) (bs : List ℕ) (s : State) (r : List ℕ) → Stands R (framesTo prog id secret k) bs s r acting → OneRam r (log s cs)
         → accepted (log s cs) ≡ log s cs → lastFrom isActing acting (log s cs) ≡ true → bs ++ gatheredBytes (log s cs) ≡ flatten (frames prog id secret)
         → LoadTrace prog id secret k bs (log s cs)
 
     no-calls : Traced []
-    no-calls k acting bs s r (is-live v) one a t e = absurd (not-live rec udi m v (reading bs (sym (append-nil bs) ∙ e)))
+    no-calls k acting bs s r (is-live v) one a t e = absurd (not-live R v (reading bs (sym (append-nil bs) ∙ e)))
     no-calls k acting bs s r (is-full f v n) one a t e = never (sym t ∙ n)
 
     gather-traced : (b : ℕ) (cs : List Call) → Traced cs → Traced (gather b ∷ cs)
-    gather-traced b cs rest k acting bs s r v one a t e = after (gathering rec udi m _ bs s r acting b v (number-zero s (gather b) (x .0)))
+    gather-traced b cs rest k acting bs s r v one a t e = after (gathering R _ bs s r acting b v (number-zero s (gather b) (x .0)))
       where
         g : Gathering
         g = gathered s b
@@ -182,13 +184,13 @@ module _ (prog : List ℕ) (id : ℕ) (secret : Secret) (makes : Made prog id se
         all : (bs ++ b ∷ []) ++ gatheredBytes later ≡ flatten (frames prog id secret)
         all = append-assoc bs (b ∷ []) (gatheredBytes later) ∙ e
 
-        after : AfterGather rec udi m (framesTo prog id secret k) (bs ++ b ∷ []) r g → LoadTrace prog id secret k bs (gathers b g ∷ later)
+        after : AfterGather R (framesTo prog id secret k) (bs ++ b ∷ []) r g → LoadTrace prog id secret k bs (gathers b g ∷ later)
         after (unfinished q u n) = gathers-on k bs b g later (ap isEnd q) (rest k false (bs ++ b ∷ []) (g .state) r (is-live u) one (x .1) t all)
         after (complete q f u) = gathers-on k bs b g later (ap isEnd q) (rest k false (bs ++ b ∷ []) (g .state) r (is-full f u refl) one (x .1) t all)
         after (bad-header q p z) = absurd (z (gatheredBytes later) (ends-whole (reading _ all)))
 
     -- the acting is not on the last frame, where the session goes on
-    not-last : (k : ℕ) (bs rest f : List ℕ) → Next prog id secret makes (suc (blocksFor n)) k f bs rest → (Starting rec m bs → ⊥) → k < blocksFor n
+    not-last : (k : ℕ) (bs rest f : List ℕ) → Next prog id secret makes (suc (blocksFor n)) k f bs rest → (ReadsOn R bs → ⊥) → k < blocksFor n
     not-last k bs rest f x z = go (eqb k (blocksFor n)) refl
       where
         go : (t : Bool) → eqb k (blocksFor n) ≡ t → k < blocksFor n
@@ -197,7 +199,7 @@ module _ (prog : List ℕ) (id : ℕ) (secret : Secret) (makes : Made prog id se
 
     act-traced : (l : Loan) (cs : List Call) → Traced cs → Traced (act l ∷ cs)
     act-traced l cs rest k acting bs s r v one a t e =
-        let y = acting-on rec udi m _ bs s r acting l v (number-zero s (act l) (x .0)) (one .0) in
+        let y = acting-on R _ bs s r acting l v (number-zero s (act l) (x .0)) (one .0) in
         let u = y .1 in
         after (y .0) (next prog id secret makes (suc (blocksFor n)) k bs (gatheredBytes later) (u .frames) (y .0) (u .all-good) (u .whole) (u .owned) e) (y .2)
       where
@@ -211,16 +213,16 @@ module _ (prog : List ℕ) (id : ℕ) (secret : Secret) (makes : Made prog id se
         x = none-refused (acts l o) later a
 
         after : (f : List ℕ) → Next prog id secret makes (suc (blocksFor n)) k f bs (gatheredBytes later)
-            → AfterAct rec udi m (framesTo prog id secret k) f bs l o → LoadTrace prog id secret k bs (acts l o ∷ later)
+            → AfterAct R (framesTo prog id secret k) f bs l o → LoadTrace prog id secret k bs (acts l o ∷ later)
         after f y (goes-on q u c p) =
-            let h : k < blocksFor n = not-last k bs (gatheredBytes later) f y (not-live rec udi m u) in
-            let u′ = subst (λ (f : List ℕ). Live rec udi m (framesTo prog id secret k ++ f ∷ []) bs (o .state) (o .ram)) (y .is) u in
-            acts-on k bs l o later q h (replied m fits rec udi k h f bs (l .room) o (y .is) (y .so-far) p)
+            let h : k < blocksFor n = not-last k bs (gatheredBytes later) f y (not-live R u) in
+            let u′ = subst (λ (f : List ℕ). Live R (framesTo prog id secret k ++ f ∷ []) bs (o .state) (o .ram)) (y .is) u in
+            acts-on k bs l o later q h (replied R fits k h f bs (l .room) o (y .is) (y .so-far) p)
             (rest (suc k) true bs (o .state) (o .ram) (is-live u′) (one .1) (x .1) t e)
         after f y (has-started w p d) =
             let c : suc (blocksFor n) ≡ suc k = y .last (d (gatheredBytes later) (reading _ e)) in
             let h : k ≡ blocksFor n = omega arith in
-            subst (λ (es : List Entry). LoadTrace prog id secret k bs (acts l o ∷ es)) (sym (nothing-started (o .state) m cs (p .state)) ∙ x .1)
+            subst (λ (es : List Entry). LoadTrace prog id secret k bs (acts l o ∷ es)) (sym (nothing-started (o .state) (length (R .ram)) cs (p .state)) ∙ x .1)
             (ends k bs l o 0x40000000 (sizeOf (w .load)) (p .report) h (start-replied k h bs l o (y .so-far) w p))
         after f y (has-stopped j q p d) = absurd (d (gatheredBytes later) (reading _ e))
 
@@ -234,8 +236,8 @@ module _ (prog : List ℕ) (id : ℕ) (secret : Secret) (makes : Made prog id se
   module _ (S : Session) (received : ReceivesFrames prog id secret S) where
     trace-of : LoadTrace prog id secret 0 [] (allOf S)
     trace-of =
-        load-trace (S .rec) (S .udi) (S .ramLen) (received .fits) (received .allowed) (S .calls) 0 false [] _ (S .ram)
-        (is-live (first-live (S .rec) (S .udi) (S .ramLen) (S .ram) (begins S))) (rw (← received .none-refused) (S .one-ram)) (received .none-refused)
+        load-trace (S .reset) (received .fits) (received .allowed) (S .calls) 0 false [] _ (S .ram)
+        (is-live (first-live (S .reset) (S .ram) (begins S))) (rw (← received .none-refused) (S .one-ram)) (received .none-refused)
         (sym (last-from isActing (allOf S)) ∙ received .acted-on) (received .bytes)
 
     end : Ended prog id secret (allOf S)
@@ -256,54 +258,64 @@ module _ (prog : List ℕ) (id : ℕ) (secret : Secret) (makes : Made prog id se
                 size = end .size;
                 answers = end .answers;
               };
-          reading = reading (S .rec) (S .udi) (S .ramLen) (received .fits) (received .allowed) (gatheredBytes (acceptedOf S)) all-received;
+          reading = reading (S .reset) (received .fits) (received .allowed) (gatheredBytes (acceptedOf S)) all-received;
         }
 
     -- the load of the reading, and its program
     load-is : loadIn (start .reading .load) ≡ loadWith n (cond (secret .used) 1 0) (cond (secret .used) (secret .uss) (replicate 32 0))
     unfolding reading
-    load-is = made.reading-load prog id secret makes (S .rec) (S .ramLen) (received .fits) (received .allowed) (gatheredBytes (acceptedOf S)) all-received
+    load-is = made.reading-load prog id secret makes (S .reset) (received .fits) (received .allowed) (gatheredBytes (acceptedOf S)) all-received
 
     program-is : programOf (start .reading .load) (start .reading .blocks) ≡ prog
     unfolding reading
-    program-is = made.reading-program prog id secret makes (S .rec) (S .ramLen) (received .fits) (received .allowed) (gatheredBytes (acceptedOf S)) all-received
+    program-is = made.reading-program prog id secret makes (S .reset) (received .fits) (received .allowed) (gatheredBytes (acceptedOf S)) all-received
 
     loads : Loads prog id secret S
     loads =
-        let g = gives S start in
-        let s : sizeOf (start .reading .load) ≡ n = ap (λ (l : Load). l .size) load-is in
+        let g = gives S start .start in
         record {
           start = start;
           before = end .before;
           last = end .list;
           not-before = end .not-before;
-          report = g .report ∙ ap (started 0x40000000) s;
-          front = ap (λ (k : ℕ). take k (end .out .ram)) (sym s) ∙ g .front ∙ program-is;
+          report = g .report ∙ ap (λ (x : List ℕ). started 0x40000000 (length x)) program-is;
+          front = ap (λ (x : List ℕ). take (length x) (end .out .ram)) (sym program-is) ∙ g .front ∙ program-is;
           cdi = g .cdi ∙ ap (λ (x : List ℕ). blake2s [] x 32)
-              (ap (λ (x : List ℕ). cdiString (bytes (end .loan .uds)) (chained (S .rec)) (measuredId (S .rec)) (blake2s [] x 32) (usesUss (loadIn (start .reading .load))) (loadIn (start .reading .load) .uss)) program-is
-              ∙ one-string (bytes (end .loan .uds)) (measuredId (S .rec)) (programDigest prog id secret) (chained (S .rec)) n (secret .used) (secret .uss) (loadIn (start .reading .load)) load-is);
+              (ap (λ (x : List ℕ). cdiString uds chain measured (blake2s [] x 32) (usesUss load) (load .uss)) program-is
+              ∙ one-string uds measured (programDigest prog id secret) chain n (secret .used) (secret .uss) load load-is);
           replies = λ l o i. rw (← zero-add (actings (i .before))) (replies prog id secret 0 [] (allOf S) trace-of (i .before) (i .after) l o (i .place));
           laptop = λ wait.
               rw (job-is prog id wait (client .accepts (length prog) id 0 .0 (makes .accepted) .1))
               (uploads .loads (laptop prog id secret wait) _ .1 (loads-from prog id secret wait 0 [] (allOf S) trace-of));
         }
+      where
+        uds : List ℕ
+        uds = bytes (end .loan .uds)
+
+        chain : Bool
+        chain = chained (S .reset .rec)
+
+        measured : List ℕ
+        measured = measuredId (S .reset .rec)
+
+        load : Load
+        load = loadIn (start .reading .load)
 
 pub client-load : ClientLoad
 client-load =
     record {
       reads = made.reads;
       loads = loads;
-      exists = λ program id secret makes rec udi ram uds accepts client eight typed fits allows.
-          let f = sent-accepted rec udi ram uds program id secret makes accepts client eight typed fits allows in (
-            session rec udi ram uds program id secret makes accepts client eight typed fits allows,
+      exists = λ program id secret makes R ram uds lent client same-length eight typed fits allows.
+          let f = sent-accepted R ram uds program id secret makes lent client same-length eight typed fits allows in (
+            session R ram uds program id secret makes lent client same-length eight typed fits allows,
             record {
-              fits = fits;
+              fits = omega arith;
               allowed = allows;
               bytes = f .all-bytes;
               none-refused = f .none-refused;
-              acted-on = all-acted rec udi ram uds program id secret makes accepts client eight typed fits allows;
+              acted-on = all-acted R ram uds program id secret makes lent client same-length eight typed fits allows;
             },
-            refl,
             refl,
             refl,
             f .same-uds,

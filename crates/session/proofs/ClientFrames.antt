@@ -23,9 +23,11 @@ use Rattle.protocol.specs.declared.Load.{Load}
 use Rattle.client.specs.Frames.{commandHeader, sizeBytes, loadBody, blockBody}
 use Rattle.client.proofs.Proved.{client}
 use Rattle.client.specs.declared.Secret.{Secret}
-use Rattle.session.specs.Reading.{Good, own, GoodLoad, BlockFrame, carried, programOf, Allowed, Starting}
+use Rattle.session.specs.Reading.{Good, own, GoodLoad, BlockFrame, carried, programOf}
 use Rattle.session.specs.Reading as shape
+use Rattle.session.specs.Session.{Reset}
 use Rattle.session.specs.Client.{frame, framesTo, frames, Made, ProgramLoad, ProgramBlock, ReadAs}
+use Rattle.session.proofs.Resets.{ReadsOn, AllowedOn}
 use Rattle.session.proofs.Frames.{All-append, own-more}
 use Rattle.session.proofs.Gathering.{length-snoc}
 use Rattle.session.proofs.Shapes.{carried-snoc}
@@ -263,7 +265,7 @@ module _ (prog : List ℕ) (id : ℕ) (secret : Secret) (made : Made prog id sec
 
   -- ---- the reading of these frames
 
-  module _ (rec : List ℕ) (m : ℕ) (fits : length prog ≤ m) (allows : Allowed rec (blake2s [] prog 32)) where
+  module _ (R : Reset) (fits : length prog ≤ length (R .ram)) (allows : AllowedOn R (blake2s [] prog 32)) where
     -- the number of the last block
     abbrev last-number : ℕ
     last-number = (length prog - 1) / 127
@@ -279,7 +281,7 @@ module _ (prog : List ℕ) (id : ℕ) (secret : Secret) (made : Made prog id sec
     all-frames : frames prog id secret ≡ frame prog id secret 0 ∷ blocks-to (suc last-number)
     all-frames = frames-are (blocksFor (length prog)) ∙ ap (λ (k : ℕ). frame prog id secret 0 ∷ blocks-to k) needed
 
-    pub reading : (received : List ℕ) → received ≡ flatten (frames prog id secret) → Starting rec m received
+    pub reading : (received : List ℕ) → received ≡ flatten (frames prog id secret) → ReadsOn R received
     reading received e =
         record {
           before = frame prog id secret 0 ∷ blocks-to last-number;
@@ -293,10 +295,10 @@ module _ (prog : List ℕ) (id : ℕ) (secret : Secret) (made : Made prog id sec
           blocks = blocks-to (suc last-number);
           order = rw is-own (ap (λ (x : List (List ℕ)). frame prog id secret 0 ∷ x) (blocks-own (suc last-number)));
           opens = tt;
-          loads = load-good m fits;
+          loads = load-good (length (R .ram)) fits;
           carry = blocks-are (suc last-number);
           enough = blocks-count (suc last-number) ∙ sym (ap (λ (l : Load). blocksFor (l .size)) load-is ∙ needed);
-          allowed = λ t. ap (λ (x : List ℕ). blake2s [] x 32) same-program ∙ allows t;
+          allowed = subst (AllowedOn R) (ap (λ (x : List ℕ). blake2s [] x 32) (sym same-program)) allows;
         }
 
     -- its program and its load

@@ -1,3 +1,4 @@
+pub mod Resets
 pub mod Frames
 pub mod Gathering
 pub mod Shapes
@@ -8,6 +9,7 @@ pub mod Walk
 pub mod Ranges
 pub mod Begins
 pub mod Strings
+pub mod Flash
 pub mod ClientFrames
 pub mod Sending
 pub mod Starts

@@ -9,12 +9,11 @@ use lib.ListN.{length}
 use Rattle.endian.proofs.Cases.{impossible}
 use Rattle.head.specs.State.{isWhole, inRange, live}
 use Rattle.head.specs.Answers.{refused}
-use Rattle.head.specs.Begin.{beginning}
 use Rattle.head.specs.Gather.{gatherRefusal}
 use Rattle.head.specs.Act.{actRefusal}
 use Rattle.head.proofs.Proved.{head-theorems}
 use Rattle.head.specs.declared.State.{State}
-use Rattle.session.specs.Session.{Call, gather, act, Entry, entryOf, reportIn, stateAfter, log}
+use Rattle.session.specs.Session.{Reset, begun, Call, gather, act, Entry, entryOf, reportIn, stateAfter, log}
 use Rattle.session.specs.Ranges.{Ranges}
 use Rattle.session.proofs.Entries.{numberOf, call-refuses}
 
@@ -56,11 +55,11 @@ stays-at [] s r (x ∷ before) after e q = impossible cc
 stays-at (c ∷ cs) s r [] after e q = subst Stays (head-eq-of-cons-eq q) (call-stays s c r)
 stays-at (c ∷ cs) s r (x ∷ before) after e q = stays-at cs (stateAfter (entryOf s c)) (call-stays s c r .0) before after e (tail-eq-of-cons-eq q)
 
-pub ranges : (rec udi : List ℕ) (m : ℕ) (calls : List Call) → Ranges rec udi m calls
-ranges rec udi m calls =
-    let b = head-theorems .begun rec udi m in
+pub ranges : (R : Reset) (calls : List Call) → Ranges R calls
+ranges R calls =
+    let b = head-theorems .begin (R .rec) (R .udi) (R .flash) (R .ram) (R .uds) .range in
     record {
       begun = b;
-      reached = λ e i. stays-at calls (beginning rec udi m .state) b (i .before) (i .after) e (i .place) .0;
-      never-one = λ e i. stays-at calls (beginning rec udi m .state) b (i .before) (i .after) e (i .place) .1;
+      reached = λ e i. stays-at calls (begun R .state) b (i .before) (i .after) e (i .place) .0;
+      never-one = λ e i. stays-at calls (begun R .state) b (i .before) (i .after) e (i .place) .1;
     }

@@ -12,8 +12,8 @@ use Rattle.endian.specs.Lists.{zeros, Words}
 use Rattle.head.specs.Answers.{reportsWhole, Gathering, Outcome}
 use Rattle.head.specs.Gather.{gathered}
 use Rattle.head.specs.Act.{acted}
-use Rattle.session.specs.Reading.{Starting}
-use Rattle.session.specs.Session.{Loan, Call, gather, act, Entry, gathers, acts, Among, log, isAccepted, accepted, gatheredBytes, OneRam, isActing}
+use Rattle.session.specs.Session.{Reset, Loan, Call, gather, act, Entry, gathers, acts, Among, log, isAccepted, accepted, gatheredBytes, OneRam, isActing}
+use Rattle.session.proofs.Resets.{ReadsOn}
 use Rattle.session.proofs.Calls.{ends-whole, Live, not-live, AfterGather, unfinished, complete, bad-header, after-gather, AfterAct, goes-on, has-started, has-stopped, after-act}
 use Rattle.session.proofs.Entries.{among-cases, among-none, lastFrom, numberOf, call-taken}
 use Rattle.session.proofs.Begins.{Runs, number-is, overAfter, fullAfter, next-runs}
@@ -75,21 +75,24 @@ module _ (uds : List ℕ) (typed : Words uds) where
   no-more : (r : List ℕ) → AllAccepted [] r true []
   no-more r = record { none-refused = refl; all-bytes = refl; one-ram = tt; acted-on = refl; same-uds = λ l o i. absurd (among-none (acts l o) i) }
 
-  module _ (rec udi : List ℕ) (m : ℕ) (eight : length uds ≡ 8) where
+  module _ (R : Reset) (eight : length uds ≡ 8) where
+    abbrev m : ℕ
+    m = length (R .ram)
+
     -- what the calls for the bytes after these lead to
     abbrev Rest : List ℕ → Type 0
-    Rest bs = (os : List (List ℕ)) (before : List ℕ) (s : State) (r : List ℕ) (t : Bool) → Live rec udi m os before s r → Runs m s false false → length r ≡ m
-        → Starting rec m (before ++ bs) → AllAccepted bs r t (log s (callsFor bs s r))
+    Rest bs = (os : List (List ℕ)) (before : List ℕ) (s : State) (r : List ℕ) (t : Bool) → Live R os before s r → Runs m s false false → length r ≡ m
+        → ReadsOn R (before ++ bs) → AllAccepted bs r t (log s (callsFor bs s r))
 
-    acted-first : (bs before r : List ℕ) → Starting rec m (before ++ bs) → Rest bs → (os : List (List ℕ)) (f : List ℕ) (t : Bool) (o : Outcome)
+    acted-first : (bs before r : List ℕ) → ReadsOn R (before ++ bs) → Rest bs → (os : List (List ℕ)) (f : List ℕ) (t : Bool) (o : Outcome)
         → isAccepted (o .report) ≡ true → Runs m (o .state) (overAfter false (acts (lending r) o)) (fullAfter true (acts (lending r) o))
-        → AfterAct rec udi m os f before (lending r) o → AllAccepted bs r t (acts (lending r) o ∷ log (o .state) (callsFor bs (o .state) (o .ram)))
+        → AfterAct R os f before (lending r) o → AllAccepted bs r t (acts (lending r) o ∷ log (o .state) (callsFor bs (o .state) (o .ram)))
     acted-first bs before r w rest os f t o e x (goes-on q u n p) =
         act-first bs r t o _ e (rest (os ++ f ∷ []) before (o .state) (o .ram) true u (rw q at x) n w)
     acted-first bs before r w rest os f t o e x (has-started d l z) = act-first bs r t o _ e (rw (z bs w) (no-more (o .ram)))
     acted-first bs before r w rest os f t o e x (has-stopped k q p z) = absurd (z bs w)
 
-    module _ (b : ℕ) (bs before r : List ℕ) (w : Starting rec m ((before ++ b ∷ []) ++ bs)) (rest : Rest bs) (fits : length r ≡ m) where
+    module _ (b : ℕ) (bs before r : List ℕ) (w : ReadsOn R ((before ++ b ∷ []) ++ bs)) (rest : Rest bs) (fits : length r ≡ m) where
       -- the gathering g of b and the calls after it, where b makes a frame whole or not
       abbrev from : Gathering → Bool → List Entry
       from g y =
@@ -97,7 +100,7 @@ module _ (uds : List ℕ) (typed : Words uds) where
           gathers b g ∷ log (g .state) (cond y (act (lending r) ∷ callsFor bs (o .state) (o .ram)) (callsFor bs (g .state) r))
 
       gathered-first : (os : List (List ℕ)) (t : Bool) (g : Gathering) → isAccepted (g .report) ≡ true
-          → Runs m (g .state) (overAfter false (gathers b g)) (fullAfter false (gathers b g)) → AfterGather rec udi m os (before ++ b ∷ []) r g
+          → Runs m (g .state) (overAfter false (gathers b g)) (fullAfter false (gathers b g)) → AfterGather R os (before ++ b ∷ []) r g
           → AllAccepted (b ∷ bs) r t (from g (reportsWhole (g .report)))
       gathered-first os t g e x (unfinished q u n) =
           subst (λ (y : Bool). AllAccepted (b ∷ bs) r t (from g y)) (sym (ap reportsWhole q))
@@ -109,12 +112,12 @@ module _ (uds : List ℕ) (typed : Words uds) where
           subst (λ (y : Bool). AllAccepted (b ∷ bs) r t (from g y)) (sym (ap reportsWhole q))
           (gather-first bs r t b g _ e
           (acted-first bs (before ++ b ∷ []) r w rest os f false (acting (g .state) r) (call-taken (g .state) (act (lending r)) z)
-          (next-runs m (g .state) false true (act (lending r)) y) (after-act rec udi m os f (before ++ b ∷ []) (g .state) (lending r) u z)))
+          (next-runs m (g .state) false true (act (lending r)) y) (after-act R os f (before ++ b ∷ []) (g .state) (lending r) u z)))
       gathered-first os t g e x (bad-header q p z) = absurd (z bs (ends-whole w))
 
     pub all-accepted : (bs : List ℕ) → Rest bs
-    all-accepted [] os before s r t v g n w = absurd (not-live rec udi m v (subst (Starting rec m) (append-nil before) w))
+    all-accepted [] os before s r t v g n w = absurd (not-live R v (subst (ReadsOn R) (append-nil before) w))
     all-accepted (b ∷ bs) os before s r t v g n w =
         let z : numberOf s (gather b) ≡ 0 = number-is m s false false (gather b) g in
-        gathered-first b bs before r (subst (Starting rec m) (sym (append-assoc before (b ∷ []) bs)) w) (all-accepted bs) n os t (gathered s b)
-        (call-taken s (gather b) z) (next-runs m s false false (gather b) g) (after-gather rec udi m os before s r v b z)
+        gathered-first b bs before r (subst (ReadsOn R) (sym (append-assoc before (b ∷ []) bs)) w) (all-accepted bs) n os t (gathered s b)
+        (call-taken s (gather b) z) (next-runs m s false false (gather b) g) (after-gather R os before s r v b z)

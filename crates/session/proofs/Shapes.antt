@@ -1,5 +1,5 @@
 -- The frames of a start in one way: the good load is the first frame that is neither a query nor a bad load.
-use Prim.Native.Nat.{ℕ, _*_, _≤_}
+use Prim.Native.Nat.{ℕ, _+_, _*_, _/_, _≤_}
 use mathlib.Core.Path.{_≡_, refl, sym, ap, _∙_}
 use mathlib.Core.Logic.{_⊎_, inl, inr, ⊎-elim}
 use mathlib.Core.Bool.{Bool, true, false, cond}
@@ -7,14 +7,15 @@ use mathlib.Core.List.{List, [], _∷_, _++_, append-assoc, append-nil, head-eq-
 use native.Mathlib.Omega.{arith}
 use lib.Dec.{eqb}
 use lib.ListN.{length, drop, length-append, length-drop}
+use lib.Seq.{length-take-le}
 use borrow.Author.Tests.{eqb-true, eqb-false}
 use Rattle.endian.proofs.Cases.{impossible}
-use Rattle.protocol.specs.Commands.{commandIn, loadIn, carriedBy}
+use Rattle.protocol.specs.Commands.{commandIn, loadIn, carriedBy, blocksFor}
 use Rattle.protocol.proofs.Proved.{protocol}
 use Rattle.head.specs.Act.{Request, asksName, asksUdi, givesLoad, givesBlock, halts, requestWaiting, requestLoading}
 use Rattle.head.proofs.Ranges.{never}
 use Rattle.endian.specs.Lists.{All}
-use Rattle.session.specs.Reading.{bodyOf, QueryFrame, LoadFrame, GoodLoad, Opens, BlockFrame, carried, sizeOf}
+use Rattle.session.specs.Reading.{bodyOf, QueryFrame, LoadFrame, GoodLoad, Opens, BlockFrame, carried, sizeOf, programOf}
 
 -- ---- what a frame asks for, against what it is
 
@@ -129,6 +130,14 @@ carries-127 f b = let l : length (drop 1 f) ≡ 128 = b .0 in omega (arith, leng
 pub carried-length : (bs : List (List ℕ)) → All BlockFrame bs → length (carried bs) ≡ 127 * length bs
 carried-length [] a = refl
 carried-length (f ∷ bs) a = length-append (carriedBy f) (carried bs) ∙ omega (arith, carried-length bs (a .1), carries-127 f (a .0))
+
+-- as many blocks as a size needs carry that many bytes
+pub program-length : (load : List ℕ) (bs : List (List ℕ)) → All BlockFrame bs → length bs ≡ blocksFor (sizeOf load)
+    → length (programOf load bs) ≡ sizeOf load
+program-length load bs a e =
+    let l = carried-length bs a in
+    let n : length bs ≡ (sizeOf load + 126) / 127 = e in
+    length-take-le (sizeOf load) (carried bs) (omega arith)
 
 pub load-size : (m : ℕ) (f : List ℕ) → GoodLoad m f → (1 ≤ sizeOf f) × (sizeOf f ≤ m)
 load-size m f g = let l = protocol .good-load m (loadIn f) .0 (g .1) in (l .some, l .fits)

@@ -12,9 +12,9 @@ use Rattle.head.specs.Gather.{gatherRefusal, gathered}
 use Rattle.head.specs.Act.{acted}
 use Rattle.head.proofs.Ranges.{never}
 use Rattle.head.proofs.Admitted.{gather-admitted, act-admitted}
-use Rattle.session.specs.Reading.{Starting}
-use Rattle.session.specs.Session.{Loan, Call, gather, act, Entry, gathers, acts, entryOf, reportIn, stateAfter, Among, log, isAccepted, accepted, gatheredBytes, OneRam, isActing}
+use Rattle.session.specs.Session.{Reset, Loan, Call, gather, act, Entry, gathers, acts, entryOf, reportIn, stateAfter, Among, log, isAccepted, accepted, gatheredBytes, OneRam, isActing}
 use Rattle.session.specs.Boot.{EndsWhole}
+use Rattle.session.proofs.Resets.{ReadsOn}
 use Rattle.session.proofs.Acting.{Leaves}
 use Rattle.session.proofs.Calls.{ends-whole, Live, Full, not-whole, now-whole, not-live, AfterGather, unfinished, complete, bad-header, whole-exactly, after-gather, AfterAct, goes-on, has-started, has-stopped, after-act}
 use Rattle.session.proofs.Entries.{among-first, among-later, among-cases, among-none, lastFrom, numberOf, number-zero, state-kept, nothing-started, nothing-stopped}
@@ -43,42 +43,45 @@ wholes-at bs (gathers c o ∷ before) after b g w =
     subst (λ (x : List ℕ). WholeAt (x ++ b ∷ []) g) (append-assoc bs (c ∷ []) (gatheredBytes before)) (wholes-at (bs ++ c ∷ []) before after b g (w .1))
 wholes-at bs (acts l o ∷ before) after b g w = wholes-at bs before after b g w
 
-module _ (rec udi : List ℕ) (m : ℕ) where
+module _ (R : Reset) where
+  abbrev m : ℕ
+  m = length (R .ram)
+
   -- what the accepted calls amount to; the last of them is an acting or not
   pub data Stands (os : List (List ℕ)) (bs : List ℕ) (s : State) (r : List ℕ) (acting : Bool) : Type 0 where
-    is-live : Live rec udi m os bs s r → Stands os bs s r acting
-    is-full : (f : List ℕ) → Full rec udi m os f bs s r → acting ≡ false → Stands os bs s r acting
+    is-live : Live R os bs s r → Stands os bs s r acting
+    is-full : (f : List ℕ) → Full R os f bs s r → acting ≡ false → Stands os bs s r acting
 
   -- an accepted gathering finds no whole frame, and an accepted acting finds one
   pub gathering : (os : List (List ℕ)) (bs : List ℕ) (s : State) (r : List ℕ) (acting : Bool) (b : ℕ) → Stands os bs s r acting → gatherRefusal s ≡ 0
-      → AfterGather rec udi m os (bs ++ b ∷ []) r (gathered s b)
-  gathering os bs s r acting b (is-live v) z = after-gather rec udi m os bs s r v b z
-  gathering os bs s r acting b (is-full f v n) z = never (sym (now-whole rec udi m v) ∙ gather-admitted s z .unfinished)
+      → AfterGather R os (bs ++ b ∷ []) r (gathered s b)
+  gathering os bs s r acting b (is-live v) z = after-gather R os bs s r v b z
+  gathering os bs s r acting b (is-full f v n) z = never (sym (now-whole R v) ∙ gather-admitted s z .unfinished)
 
   pub acting-on : (os : List (List ℕ)) (bs : List ℕ) (s : State) (r : List ℕ) (acting : Bool) (l : Loan) → Stands os bs s r acting → numberOf s (act l) ≡ 0
-      → l .ram ≡ r → (f : List ℕ) × Full rec udi m os f bs s r × AfterAct rec udi m os f bs l (acted s (l .room) (l .ram) (l .uds))
+      → l .ram ≡ r → (f : List ℕ) × Full R os f bs s r × AfterAct R os f bs l (acted s (l .room) (l .ram) (l .uds))
   acting-on os bs s r acting l (is-live v) z e =
-      never (sym (act-admitted s (length (l .room)) (length (l .ram)) (length (l .uds)) z .complete) ∙ not-whole rec udi m v)
-  acting-on os bs s r acting l (is-full f v n) z e = (f, v, after-act rec udi m os f bs s l (subst (Full rec udi m os f bs s) (sym e) v) z)
+      never (sym (act-admitted s (length (l .room)) (length (l .ram)) (length (l .uds)) z .complete) ∙ not-whole R v)
+  acting-on os bs s r acting l (is-full f v n) z e = (f, v, after-act R os f bs s l (subst (Full R os f bs s) (sym e) v) z)
 
   -- the start that an acting answered, where these are the accepted bytes
   pub record StartRead (bs : List ℕ) (l : Loan) (o : Outcome) : Type 0 where
-    pub reading : Starting rec m bs
-    pub leaves : Leaves rec udi m (reading .load) (reading .blocks) (getD (reading .last) 0 0) (l .room) (l .uds) o
+    pub reading : ReadsOn R bs
+    pub leaves : Leaves R (reading .load) (reading .blocks) (getD (reading .last) 0 0) (l .room) (l .uds) o
     pub eight : length (l .uds) ≡ 8
 
   pub record Walk (acting : Bool) (bs : List ℕ) (es : List Entry) : Type 0 where
     pub only : (l : Loan) (o : Outcome) → Among (acts l o) es → Answered o
         → StartRead (bs ++ gatheredBytes es) l o × (lastFrom isActing acting es ≡ true)
-    pub whenever : Starting rec m (bs ++ gatheredBytes es) → lastFrom isActing acting es ≡ true
+    pub whenever : ReadsOn R (bs ++ gatheredBytes es) → lastFrom isActing acting es ≡ true
         → (l : Loan) × (o : Outcome) × Among (acts l o) es × Answered o
     pub wholes : Wholes bs es
 
   no-more : (os : List (List ℕ)) (acting : Bool) (bs : List ℕ) (s : State) (r : List ℕ) → Stands os bs s r acting → Walk acting bs []
   no-more os acting bs s r v = record { only = λ l o i a. absurd (among-none (acts l o) i); whenever = λ d e. absurd (none v d e); wholes = tt }
     where
-      none : Stands os bs s r acting → Starting rec m (bs ++ []) → acting ≡ true → ⊥
-      none (is-live v) d e = not-live rec udi m v (subst (Starting rec m) (append-nil bs) d)
+      none : Stands os bs s r acting → ReadsOn R (bs ++ []) → acting ≡ true → ⊥
+      none (is-live v) d e = not-live R v (subst (ReadsOn R) (append-nil bs) d)
       none (is-full f v n) d e = never (sym e ∙ n)
 
   -- ---- a call, and what the calls after it lead to
@@ -89,7 +92,7 @@ module _ (rec udi : List ℕ) (m : ℕ) where
       record {
         only = λ l o i a. only l o (among-cases (gathers b g) (acts l o) es i) a;
         whenever = λ d e.
-            let t = w .whenever (subst (Starting rec m) (sym p) d) e in
+            let t = w .whenever (subst (ReadsOn R) (sym p) d) e in
             (t .0, t .1, among-later (gathers b g) (acts (t .0) (t .1)) es (t .2), t .3);
         wholes = (h, w .wholes);
       }
@@ -130,7 +133,7 @@ module _ (rec udi : List ℕ) (m : ℕ) where
       only k x (inl q) = let el : k ≡ l = cc in let eo : x ≡ o = cc in (rw (append-nil bs, el, eo) b, refl)
       only k x (inr j) = absurd (among-none (acts k x) j)
 
-  stop-last : (acting : Bool) (bs : List ℕ) (e : Entry) (k : ℕ) → reportIn e ≡ stopped k → (Starting rec m (bs ++ gatheredBytes (e ∷ [])) → ⊥)
+  stop-last : (acting : Bool) (bs : List ℕ) (e : Entry) (k : ℕ) → reportIn e ≡ stopped k → (ReadsOn R (bs ++ gatheredBytes (e ∷ [])) → ⊥)
       → Wholes bs (e ∷ []) → Walk acting bs (e ∷ [])
   stop-last acting bs e k r z h =
       record { only = λ l o i a. only l o (among-cases e (acts l o) [] i) a; whenever = λ d q. absurd (z d); wholes = h }
@@ -168,9 +171,9 @@ module _ (rec udi : List ℕ) (m : ℕ) where
   gather-next b cs rest os acting bs s r v =
       by-accepted (gather b) cs rest os acting bs s r v (λ t.
       let a = gathering os bs s r acting b v (number-zero s (gather b) t) in
-      after (gathered s b) a (whole-exactly rec udi m a))
+      after (gathered s b) a (whole-exactly R a))
     where
-      after : (g : Gathering) → AfterGather rec udi m os (bs ++ b ∷ []) r g → WholeAt (bs ++ b ∷ []) g → OneRam r (accepted (log (g .state) cs))
+      after : (g : Gathering) → AfterGather R os (bs ++ b ∷ []) r g → WholeAt (bs ++ b ∷ []) g → OneRam r (accepted (log (g .state) cs))
           → Walk acting bs (gathers b g ∷ accepted (log (g .state) cs))
       after g (unfinished e u n) h one = gather-first acting bs b g _ h (rest os false (bs ++ b ∷ []) (g .state) r (is-live u) one)
       after g (complete e f u) h one = gather-first acting bs b g _ h (rest os false (bs ++ b ∷ []) (g .state) r (is-full f u refl) one)
@@ -185,7 +188,7 @@ module _ (rec udi : List ℕ) (m : ℕ) where
       let a = acting-on os bs s r acting l v z (one .0) in
       after _ (a .0) (a .2) (act-admitted s (length (l .room)) (length (l .ram)) (length (l .uds)) z .words) (one .1))
     where
-      after : (o : Outcome) (f : List ℕ) → AfterAct rec udi m os f bs l o → length (l .uds) ≡ 8 → OneRam (o .ram) (accepted (log (o .state) cs))
+      after : (o : Outcome) (f : List ℕ) → AfterAct R os f bs l o → length (l .uds) ≡ 8 → OneRam (o .ram) (accepted (log (o .state) cs))
           → Walk acting bs (acts l o ∷ accepted (log (o .state) cs))
       after o f (goes-on e u n x) w one = act-first acting bs l o _ e (rest (os ++ f ∷ []) true bs (o .state) (o .ram) (is-live u) one)
       after o f (has-started d x z) w one =

@@ -2,29 +2,24 @@
 -- proofs/Checked.antt.
 use Prim.Native.Nat.{ℕ}
 use mathlib.Core.Path.{_≡_}
-use mathlib.Core.Logic.{_⊎_}
 use mathlib.Core.Bool.{true, false}
 use mathlib.Core.List.{List, [], _∷_}
 use lib.ListN.{length, getD}
 use Rattle.framing.specs.Header.{good, headerAt}
 use Rattle.rfc7693.specs.Rfc7693.{compressions}
 use Rattle.protocol.specs.Commands.{blocksFor, countIn}
-use Rattle.record.specs.Record.{typeField, numberIn}
 use Rattle.cdi.specs.Theorems.{Inputs, stringOf}
 use Rattle.head.specs.Answers.{continues, stopped}
-use Rattle.head.specs.Begin.{beginning}
 use Rattle.head.specs.Gather.{gathered}
-use Rattle.session.specs.Session.{isAccepted}
+use Rattle.session.specs.Session.{Reset, begun, AsksClient, isAccepted}
 use Rattle.head.specs.declared.State.{State}
 
 -- the state of a head that was begun on a record of type 4 or 5
 pub record Begun (s : State) : Type 0 where
-  pub rec : List ℕ
-  pub udi : List ℕ
-  pub ramLen : ℕ
-  pub begins : isAccepted (beginning rec udi ramLen .report) ≡ true
-  pub client : (numberIn typeField rec ≡ 4) ⊎ (numberIn typeField rec ≡ 5)
-  pub state : s ≡ beginning rec udi ramLen .state
+  pub reset : Reset
+  pub begins : isAccepted (begun reset .report) ≡ true
+  pub client : AsksClient reset
+  pub state : s ≡ begun reset .state
 
 -- the bytes are gathered, none of them makes a frame whole, and they lead from s to s′
 abbrev pub PassedOver : List ℕ → State → State → Type 0

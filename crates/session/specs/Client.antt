@@ -2,7 +2,7 @@
 -- `read_reply` says, and the head is a session of specs/Session.antt. The proof is `client-load` in proofs/Client.antt.
 use Prim.Native.Nat.{ℕ, zero, suc, _≤_}
 use mathlib.Core.Path.{_≡_}
-use mathlib.Core.Logic.{_↔_, _⊎_}
+use mathlib.Core.Logic.{_↔_}
 use mathlib.Core.Bool.{true, false, cond}
 use mathlib.Core.List.{List, [], _∷_, _++_, flatten}
 use lib.Dec.{eqb}
@@ -14,9 +14,7 @@ use Rattle.framing.specs.Header.{good, headerAt}
 use Rattle.protocol.specs.Commands.{firmware, loadIn, carriedBy, blocksFor, placeOf}
 use Rattle.endian.specs.Lists.{padded, Bytes, Words, zeros}
 use Rattle.protocol.specs.Theorems.{loadWith}
-use Rattle.record.specs.Record.{typeField, numberIn}
 use Rattle.head.specs.Answers.{started, Outcome}
-use Rattle.head.specs.Begin.{beginning}
 use Rattle.client.specs.Frames.{refusal, commandFrame}
 use Rattle.client.specs.Replies.{takingAs, taking}
 use Rattle.client.specs.declared.Secret.{Secret}
@@ -24,7 +22,7 @@ use Rattle.upload.specs.Upload.{jobOf, opening, bytesOf, runs}
 use Rattle.upload.specs.declared.Job.{Job}
 use Rattle.upload.specs.declared.Next.the-variants.{Loaded}
 use Rattle.session.specs.Reading.{LoadFrame, GoodLoad, BlockFrame, Allowed, chained, measuredId}
-use Rattle.session.specs.Session.{Loan, Entry, gathers, acts, Among, isAccepted, gatheredBytes, repliesOf, Session, allOf, acceptedOf, hasEnded, lastIs, isActing}
+use Rattle.session.specs.Session.{Reset, AsksClient, Admitted, Loan, Entry, gathers, acts, Among, gatheredBytes, repliesOf, Session, ramLen, allOf, acceptedOf, hasEnded, lastIs, isActing}
 use Rattle.session.specs.Boot.{Start}
 
 -- how many of these calls are actings
@@ -81,8 +79,8 @@ module _ (program : List ℕ) (id : ℕ) (secret : Secret) where
   -- a session of a fresh head of type 4 or 5 in which it gathered these frames, no call was refused and the last was an acting: RAM has room for
   -- the program, and type 5 requires its digest
   pub record ReceivesFrames (S : Session) : Type 0 where
-    pub fits : length program ≤ S .ramLen
-    pub allowed : Allowed (S .rec) programDigest
+    pub fits : length program ≤ ramLen S
+    pub allowed : Allowed (S .reset .rec) (S .reset .flash .builtIn) programDigest
     pub bytes : gatheredBytes (allOf S) ≡ flatten frames
     pub none-refused : acceptedOf S ≡ allOf S
     pub acted-on : lastIs isActing (allOf S) ≡ true
@@ -112,7 +110,7 @@ module _ (program : List ℕ) (id : ℕ) (secret : Secret) where
     pub report : start .out .report ≡ started 0x40000000 (length program)
     pub front : take (length program) (start .out .ram) ≡ program
     pub cdi : start .out .cdi
-        ≡ blake2s [] (cdiString (bytes (start .loan .uds)) (chained (S .rec)) (measuredId (S .rec)) programDigest (secret .used) (secret .uss)) 32
+        ≡ blake2s [] (cdiString (bytes (start .loan .uds)) (chained (S .reset .rec)) (measuredId (S .reset .rec)) programDigest (secret .used) (secret .uss)) 32
     -- each acting, by the number of actings and the bytes before it
     pub replies : (l : Loan) (o : Outcome) (i : Among (acts l o) (allOf S)) → Replied (actings (i .before)) (gatheredBytes (i .before)) o
     -- the laptop that is given these replies, one after the other, says that the program is loaded
@@ -121,9 +119,9 @@ module _ (program : List ℕ) (id : ℕ) (secret : Secret) where
 pub record ClientLoad : Type 0 where
   pub reads : (program : List ℕ) (id : ℕ) (secret : Secret) → Made program id secret → ReadAs program id secret
   pub loads : (program : List ℕ) (id : ℕ) (secret : Secret) → Made program id secret → (S : Session) → ReceivesFrames program id secret S → Loads program id secret S
-  -- there is such a session for every record, UDI, RAM and UDS that allow it; each acting of it is lent this UDS
-  pub exists : (program : List ℕ) (id : ℕ) (secret : Secret) → Made program id secret → (rec udi ram uds : List ℕ)
-      → isAccepted (beginning rec udi (length ram) .report) ≡ true → (numberIn typeField rec ≡ 4) ⊎ (numberIn typeField rec ≡ 5)
-      → length uds ≡ 8 → Words uds → length program ≤ length ram → Allowed rec (blake2s [] program 32)
-      → (S : Session) × ReceivesFrames program id secret S × (S .rec ≡ rec) × (S .udi ≡ udi) × (S .ram ≡ ram)
+  -- there is such a session for every reset, RAM and UDS that allow it; each acting of it is lent this UDS
+  pub exists : (program : List ℕ) (id : ℕ) (secret : Secret) → Made program id secret → (R : Reset) (ram uds : List ℕ)
+      → Admitted R → AsksClient R → length ram ≡ length (R .ram)
+      → length uds ≡ 8 → Words uds → length program ≤ length ram → Allowed (R .rec) (R .flash .builtIn) (blake2s [] program 32)
+      → (S : Session) × ReceivesFrames program id secret S × (S .reset ≡ R) × (S .ram ≡ ram)
       × ((l : Loan) (o : Outcome) → Among (acts l o) (allOf S) → l .uds ≡ uds)

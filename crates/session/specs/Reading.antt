@@ -72,9 +72,10 @@ programOf load blocks = take (sizeOf load) (carried blocks)
 abbrev pub digestOf : List ℕ → List (List ℕ) → List ℕ
 digestOf load blocks = blake2s [] (programOf load blocks) 32
 
--- a program of this digest may start: type 5 requires record bytes 8 to 39
-abbrev pub Allowed : List ℕ → List ℕ → Type 0
-Allowed rec d = numberIn typeField rec ≡ 5 → d ≡ fieldOf requiredField rec
+-- a program of this digest may start: type 0 requires the built-in digest, types 2, 3 and 5 record bytes 8 to 39, and types 1 and 4 none
+pub record Allowed (rec builtIn d : List ℕ) : Type 0 where
+  pub built-in : numberIn typeField rec ≡ 0 → d ≡ builtIn
+  pub recorded : (numberIn typeField rec ≡ 2) ⊎ ((numberIn typeField rec ≡ 3) ⊎ (numberIn typeField rec ≡ 5)) → d ≡ fieldOf requiredField rec
 
 -- mask bit 0: chained if it is 1, direct if it is 0
 abbrev pub chained : List ℕ → Bool
@@ -83,8 +84,8 @@ chained rec = resetSeed (numberIn maskField rec)
 abbrev pub measuredId : List ℕ → List ℕ
 measuredId rec = fieldOf measuredIdField rec
 
--- the accepted bytes of a session that has started, for the record and the RAM's length at begin
-pub record Starting (rec : List ℕ) (m : ℕ) (received : List ℕ) : Type 0 where
+-- the accepted bytes of a session that has started, for the record, the built-in digest and the RAM's length at begin
+pub record Starting (rec builtIn : List ℕ) (m : ℕ) (received : List ℕ) : Type 0 where
   -- whole good frames one after the other, with nothing left over, and the last is a block
   pub before : List (List ℕ)
   pub last : List ℕ
@@ -103,4 +104,4 @@ pub record Starting (rec : List ℕ) (m : ℕ) (received : List ℕ) : Type 0 wh
   -- n needs ceil(n / 127) of them
   pub enough : length blocks ≡ blocksFor (sizeOf load)
   -- where a digest is required, the first n bytes carried have it
-  pub allowed : Allowed rec (digestOf load blocks)
+  pub allowed : Allowed rec builtIn (digestOf load blocks)

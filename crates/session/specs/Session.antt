@@ -1,6 +1,6 @@
--- A session: an accepted begin, then calls of `gather` and `act` one after another, in any order. The definitions are those that the promises of
--- `begin`, `gather` and `act` cite (`beginning`, `gathered`, `acted`).
-use Prim.Native.Nat.{ℕ}
+-- A reset and a session: an accepted begin, then calls of `gather` and `act` one after another, in any order. The definitions are those that the
+-- promises of `begin`, `gather` and `act` cite (`beginning`, `gathered`, `acted`).
+use Prim.Native.Nat.{ℕ, _≤_}
 use mathlib.Core.Path.{_≡_}
 use mathlib.Core.Logic.{_⊎_}
 use mathlib.Core.Bool.{Bool, true, false, not, cond, _||_}
@@ -9,11 +9,38 @@ use lib.Dec.{eqb, ltb}
 use lib.ListN.{length, take}
 use Rattle.endian.specs.Lists.{Words}
 use Rattle.record.specs.Record.{typeField, numberIn}
-use Rattle.head.specs.Answers.{Report, refused, continues, whole, stopped, started, reportsWhole, Gathering, Outcome}
-use Rattle.head.specs.Begin.{beginning}
+use Rattle.head.specs.Answers.{Report, refused, continues, whole, stopped, started, reportsWhole, Gathering, Result, Outcome}
+use Rattle.head.specs.Begin.{Flash, beginning}
 use Rattle.head.specs.Gather.{gathered}
 use Rattle.head.specs.Act.{acted}
 use Rattle.head.specs.declared.State.{State}
+
+-- what begin gets: the record, the UDI, what there is of flash, RAM and UDS. That a word of the UDS has 32 bits is its type in the code
+pub record Reset : Type 0 where
+  pub rec : List ℕ
+  pub udi : List ℕ
+  pub flash : Flash
+  pub ram : List ℕ
+  pub uds : List ℕ
+  pub typed : Words uds
+
+abbrev pub begun : Reset → Result
+begun R = beginning (R .rec) (R .udi) (R .flash) (R .ram) (R .uds)
+
+-- the type of the record
+abbrev pub typeOf : Reset → ℕ
+typeOf R = numberIn typeField (R .rec)
+
+-- it asks for a client program
+abbrev pub AsksClient : Reset → Type 0
+AsksClient R = (typeOf R ≡ 4) ⊎ (typeOf R ≡ 5)
+
+-- none of begin's refusals applies: 5, 6 and 7
+pub record Admitted (R : Reset) : Type 0 where
+  pub eight : length (R .uds) ≡ 8
+  pub record-length : length (R .rec) ≡ 256
+  pub ram-some : 1 ≤ length (R .ram)
+  pub ram-small : length (R .ram) ≤ 131072
 
 -- what is lent to an acting: reply room, RAM and UDS may be anything. That a word of the UDS has 32 bits is its type in the code
 pub record Loan : Type 0 where
@@ -90,20 +117,23 @@ OneRam r (gathers b o ∷ es) = OneRam r es
 OneRam r (acts l o ∷ es) = (l .ram ≡ r) × OneRam (o .ram) es
 
 pub record Session : Type 0 where
-  -- an accepted begin on a record of type 4 or 5
-  pub rec : List ℕ
-  pub udi : List ℕ
-  pub ramLen : ℕ
-  pub begins : isAccepted (beginning rec udi ramLen .report) ≡ true
-  pub client : (numberIn typeField rec ≡ 4) ⊎ (numberIn typeField rec ≡ 5)
+  -- an accepted begin on a record of type 4 or 5. What it was lent and given besides record and UDI may be anything, and need not be what the
+  -- later calls are lent
+  pub reset : Reset
+  pub begins : isAccepted (begun reset .report) ≡ true
+  pub client : AsksClient reset
   -- the calls, of which the first gets begin's state, and the bytes in RAM at the first accepted acting
   pub calls : List Call
   pub ram : List ℕ
-  pub one-ram : OneRam ram (accepted (log (beginning rec udi ramLen .state) calls))
+  pub one-ram : OneRam ram (accepted (log (begun reset .state) calls))
+
+-- the RAM's length at begin
+abbrev pub ramLen : Session → ℕ
+ramLen S = length (S .reset .ram)
 
 -- every call of the list, and those that were accepted
 abbrev pub allOf : Session → List Entry
-allOf S = log (beginning (S .rec) (S .udi) (S .ramLen) .state) (S .calls)
+allOf S = log (begun (S .reset) .state) (S .calls)
 
 abbrev pub acceptedOf : Session → List Entry
 acceptedOf S = accepted (allOf S)

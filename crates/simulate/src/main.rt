@@ -1,12 +1,23 @@
 // A head on a pseudo-terminal: the proved loader (crate `loader`) behind standard input and output. ./simulate opens the terminal.
-// On descriptor 4 come the record, the UDS, the UDI, the RAM's length and, as 1 or 0, whether descriptor 2 is a terminal. What is shown
-// (crate `display`) goes to descriptor 2 and the exit status, which a Rattle program has not, to descriptor 3.
+// On descriptor 4 come the record, the UDS, the UDI, the built-in digest, the RAM's length, as 1 or 0 whether descriptor 2 is a terminal, and
+// the two slots of flash. What is shown (crate `display`) goes to descriptor 2 and the exit status, which a Rattle program has not, to
+// descriptor 3.
 // What no contract can say is left to this file: that it hands over the bytes that it reads, in order, and writes each reply and text.
+ghost use mathlib.Core.Path.{_≡_};
+ghost use lib.ListN.{length};
 use libc::STDERR_FILENO;
 use libc::STDIN_FILENO;
 use libc::STDOUT_FILENO;
 use loader::Answer;
 use loader::State;
+
+// What a head has when it is switched on, besides memory.
+struct Device {
+    record: [u8; 256],
+    words: [u32; 8],
+    udi: [u8; 8],
+    built_in: [u8; 32],
+}
 
 // A head between two bytes, with its device secret and its last answer; over says that no byte is received any more.
 struct Head {
@@ -17,24 +28,64 @@ struct Head {
 }
 
 fn main() {
-    let mut ram = [0u8; 131072];
-    let record = read_record();
-    let words = read_words();
-    let udi = read_udi();
+    let mut ram = memory();
+    let device = read_device();
     let n = read_number() as usize;
     let terminal = read_number() == 1;
-    let begun = loader::begin(&record, udi, n);
-    let answer = begun.answer;
-    let state = begun.state;
-    let head = Head {
+    if n <= 131072 {
+        run(device, terminal, &mut ram[..n]);
+    }
+}
+
+// One byte more than the most RAM, so that a program in flash can be too long. The `ensures` says the length, so that what lends this does
+// not count it again.
+fn memory() -> [u8; 131073]
+    ensures { λ r. ⌜ 131073 ≡ length r ⌝ }
+{
+    [0; 131073]
+}
+
+// A head with this RAM, from begin on. Each slot is as long as the program in it.
+fn run(device: Device, terminal: bool, ram: &mut [u8]) {
+    let mut slot0 = memory();
+    let mut slot1 = memory();
+    let size0 = read_slot(&mut slot0);
+    let size1 = read_slot(&mut slot1);
+    let head = begin(
+        device,
+        endian::first(&slot0, size0),
+        endian::first(&slot1, size1),
+        ram,
+    );
+    serve(head, terminal, ram);
+}
+
+// Begins, and shows what came of it.
+fn begin<'a>(device: Device, slot0: &'a [u8], slot1: &'a [u8], ram: &mut [u8]) -> Head {
+    let record = device.record;
+    let udi = device.udi;
+    let built_in = device.built_in;
+    let mut words = device.words;
+    let b = loader::begin(
+        &record,
+        udi,
+        slot0,
+        slot0.len(),
+        slot1,
+        slot1.len(),
+        built_in,
+        ram,
+        &mut words,
+    );
+    let answer = b.answer;
+    let state = b.state;
+    let cdi = b.cdi;
+    text::write(STDERR_FILENO, display::begun(answer, cdi));
+    Head {
         state,
         words,
         answer,
         over: is_over(answer),
-    };
-    text::write(STDERR_FILENO, display::begun(answer));
-    if n <= 131072 {
-        serve(head, terminal, &mut ram[..n]);
     }
 }
 
@@ -130,6 +181,19 @@ fn send(room: [u8; 129], n: usize) {
 
 // ---- descriptor 4; what does not come there is zeros
 
+fn read_device() -> Device {
+    let record = read_record();
+    let words = read_words();
+    let udi = read_udi();
+    let built_in = read_digest();
+    Device {
+        record,
+        words,
+        udi,
+        built_in,
+    }
+}
+
 fn read_record() -> [u8; 256] {
     let mut record = [0u8; 256];
     io::read_full(4, &mut record);
@@ -153,6 +217,21 @@ fn read_udi() -> [u8; 8] {
     let mut udi = [0u8; 8];
     io::read_full(4, &mut udi);
     udi
+}
+
+fn read_digest() -> [u8; 32] {
+    let mut digest = [0u8; 32];
+    io::read_full(4, &mut digest);
+    digest
+}
+
+// A slot's length and its bytes: says how many there are.
+fn read_slot(slot: &mut [u8]) -> usize {
+    let n = read_number() as usize;
+    if slot.len() < n {
+        return 0;
+    }
+    io::read_full(4, &mut slot[..n])
 }
 
 // Four bytes, lowest first.

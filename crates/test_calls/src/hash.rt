@@ -1,6 +1,5 @@
 // A hash in parts.
 use super::image;
-use super::session;
 use blake2s::Answer;
 use blake2s::Context;
 ghost use Prim.Native.Nat.{_≤_};
@@ -20,7 +19,7 @@ pub fn call(x: Context, c: [u8; 320]) -> Context {
     match c[0] {
         2 => begin(c),
         3 => update(x, c),
-        4 => finish(x, session::length(c[1], 0, 255)),
+        4 => finish(x, image::at_most(c[1] as usize, 255)),
         _ => x,
     }
 }

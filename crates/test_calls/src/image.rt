@@ -1,11 +1,14 @@
 // Numbers and states as bytes: a state has 254.
+use libc::STDIN_FILENO;
 use libc::STDOUT_FILENO;
 use loader::Config;
 use loader::Incoming;
 use loader::Phase;
 use loader::Progress;
 use loader::State;
+ghost use mathlib.Core.Path.{_≡_};
 ghost use Prim.Native.Nat.{_+_, _≤_};
+ghost use lib.ListN.{length};
 
 // The word at a place.
 pub fn word(c: [u8; 320], at: usize) -> u32
@@ -19,6 +22,26 @@ pub fn length(c: [u8; 320], at: usize) -> usize
     requires { ⌜ at + 8 ≤ 320 ⌝ }
 {
     word(c, at) as usize + word(c, at + 4) as usize * 4294967296
+}
+
+// A length, or the most if that is less.
+pub fn at_most(n: usize, most: usize) -> usize
+    ensures { λ r. ⌜ r ≤ most ⌝ }
+{
+    if n <= most { n } else { most }
+}
+
+// One byte more than the most RAM. The `ensures` says the length, so that what lends this does not count it again.
+pub fn buffer() -> [u8; 131073]
+    ensures { λ r. ⌜ 131073 ≡ length r ⌝ }
+{
+    [0; 131073]
+}
+
+// Reads so many bytes to the front of a buffer, or fewer if it has no room or they do not come, and says how many.
+pub fn read_front(buffer: &mut [u8], n: usize) -> usize {
+    let m = at_most(n, buffer.len());
+    io::read_full(STDIN_FILENO, &mut buffer[..m])
 }
 
 // The 32 bytes at a place.

@@ -17,7 +17,7 @@ returns-4 : tie.Need-returns-4
 returns-4 c = rw (c .before .before .before .answer2 .given .1, c .stop-line .ensures, c .before .empty3 .ensures, behind)
 
 returns-5 : tie.Need-returns-5
-returns-5 c = rw (c .before .enum-told3 .given .1) (c .empty4 .ensures)
+returns-5 c = rw (c .before .before .before .answer3 .given .1, c .start-line .ensures, c .before .empty4 .ensures, behind)
 
 pub begun-spec : {M : Type 1} → statement M
 begun-spec =
@@ -35,6 +35,7 @@ begun-spec =
     (λ c κs. search needs)
     (λ c κs. search needs)
     (λ c. search needs)
+    (λ c κs. search needs)
     (λ c κs. search needs)
     returns
     returns-2

@@ -6,7 +6,7 @@ use Rattle.head.proofs.states.ended.Tie as tie
 
 returns : tie.Need-returns
 unfolding ended
-returns c = rw (c .idle .ensures)
+returns c = rw (c .of-size .ensures, c .before .idle .ensures)
 
 pub ended-spec : {M : Type 1} → statement M
-ended-spec = tie.close (tie.spec (λ c κs. search needs) returns)
+ended-spec = tie.close (tie.spec (λ c κs. search needs) (λ c κs. search needs) returns)

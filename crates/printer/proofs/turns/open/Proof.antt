@@ -12,11 +12,12 @@ returns : tie.Need-returns
 unfolding opening
 returns c =
     let i = c .before .before .before in
-    rw (lt-ltb _ 296 (i .if1 .taken), with-line _ _ [] (errorLine 1) (c .before .empty .ensures) (c .numbered .ensures), i .before .begin .ensures)
+    let b = i .before .before .before .begin in
+    (rw (lt-ltb _ 296 (i .if1 .taken), with-line _ _ [] (errorLine 1) (c .before .empty .ensures) (c .numbered .ensures), b .ensures .0), b .ensures .1)
 
 returns-2 : tie.Need-returns-2
 unfolding opening
-returns-2 c = rw (le-ltb _ 296 (c .if1 .left)) (c .before .begin .ensures)
+returns-2 c = let b = c .before .before .before .begin in (rw (le-ltb _ 296 (c .if1 .left)) (b .ensures .0), b .ensures .1)
 
 pub open-spec : {M : Type 1} → statement M
 open-spec =
@@ -25,5 +26,7 @@ open-spec =
     (λ c κs. search needs)
     (λ c κs. search needs)
     (λ c κs. search needs)
+    (λ c. search needs)
     returns
+    (λ c. search needs)
     returns-2)

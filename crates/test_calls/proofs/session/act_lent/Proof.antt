@@ -2,11 +2,11 @@
 use mathlib.Core.Path.{sym}
 use lib.Seq.{length-take-le}
 use borrow.Author.Needs.{needs}
-use Rattle.test_calls.proofs.session.lend.Statement.{statement}
-use Rattle.test_calls.proofs.session.lend.Tie as tie
+use Rattle.test_calls.proofs.session.act_lent.Statement.{statement}
+use Rattle.test_calls.proofs.session.act_lent.Tie as tie
 
-pub lend-spec : {M : Type 1} → statement M
-lend-spec =
+pub act-lent-spec : {M : Type 1} → statement M
+act-lent-spec =
     tie.close
     (tie.spec
     (λ c. search needs)
@@ -18,4 +18,7 @@ lend-spec =
     (λ c κs. search needs)
     (λ c κs. search needs)
     (λ c κs. search needs)
+    (λ c κs. search needs)
+    (λ c κs. search needs)
+    (λ c. search needs)
     (λ c. search needs))

@@ -3,9 +3,9 @@ use lib.ListN.{replicate}
 use Prim.Native.Nat.{ℕ}
 use mathlib.Core.Path.{ap, _∙_}
 use borrow.Author.Needs.{needs}
-use Rattle.head.specs.Act.{starting}
-use Rattle.loader.proofs.acting.start.Statement.{statement}
-use Rattle.loader.proofs.acting.start.Tie as tie
+use Rattle.head.specs.Start.{starting}
+use Rattle.loader.proofs.starting.start.Statement.{statement}
+use Rattle.loader.proofs.starting.start.Tie as tie
 
 returns : tie.Need-returns
 unfolding starting
@@ -13,9 +13,9 @@ returns c =
     let k = c .before .before .before in
     let d = k .before .before in
     let b = d .before .before .before in
-    let z = b .before .before .before .before .before in
+    let z = b .before .before .before in
     let e = k .clear .ensures ∙ ap (λ (n : ℕ). replicate n 0) (z .pre) in
-    λ room ram. rw (c .ended .ensures, d .derive .ensures, b .secret-bytes .ensures, e)
+    λ ram. rw (c .ended .ensures, d .derive .ensures, b .secret-bytes .ensures, e)
 
 pub start-spec : {M : Type 1} → statement M
 start-spec =
