@@ -1,5 +1,5 @@
 """Calls for the program `test_calls`, and all that each must give: the program makes them one after the other and writes every value that a
-call hands back and every byte that it was lent.
+call hands back and every byte that it was lent to write.
 
 A `Calls` gathers calls with what an independent program says of each; `play` runs the program and says where it differs.
 """

@@ -112,6 +112,11 @@ class Session:
         self.words[:8] = words
         self.memory = calls.Memory([*self.words], self.memory.ram if self.memory else None)
 
+    def change_ram(self, ram):
+        """Other bytes in RAM at the next acting than begin was lent."""
+        self.ram[: len(ram)] = ram
+        self.memory = calls.Memory([*self.words], bytes(self.ram))
+
     def hear(self, byte, **lent):
         """Gathers a byte, and acts if a frame is whole with it."""
         self.gather(byte)
@@ -527,6 +532,8 @@ def random_lists(made, seen):
         required = rng.choice([blake2s(PROGRAM[:size])] * 3 + [rng.randbytes(32)])
         record = struct.pack("<II32s216s", kind, mask, required, rng.randbytes(216))
         s = begun(made, f"list {k}", record, rng.randbytes(8), uds=[rng.randrange(2**32) for _ in range(8)])
+        if k % 2:
+            s.change_ram(rng.randbytes(RAM))
         in_any_order(rng, s, random_data(rng, size))
         seen["lists", s.head.phase] += 1
 

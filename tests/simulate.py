@@ -322,10 +322,10 @@ def one_line(status, words):
 
 def readme(folder):
     """README's table has the words of each stop."""
-    rows = (TOP / "README.md").read_text().splitlines()
-    for number, line in STOPS.items():
-        words = line.removeprefix(f"stopped {number}: ").rstrip("\n")
-        expect(f"rows of stop {number}", len([row for row in rows if row.startswith(f"| {number} | {words} | ")]), 1)
+    section = (TOP / "README.md").read_text().split("## A red lamp")[1].split("\n## ")[0]
+    rows = [row.split(" | ") for row in section.splitlines() if row[:3] == "| 2"]
+    wanted = [[f"| {number}", line.removeprefix(f"stopped {number}: ").rstrip("\n")] for number, line in STOPS.items()]
+    expect("number and words of each stop", [row[:2] for row in rows], [["| 20", "the record's type is 6 or above"], *wanted])
 
 
 def readme_flash(folder):
@@ -333,6 +333,7 @@ def readme_flash(folder):
     found = re.findall(r"^    \$ ./simulate (--.*)\n    /dev/pts/.*\n((?:    .*\n)+)", (TOP / "README.md").read_text(), re.M)
     expect("examples", len(found), 1)
     options, lines = found[0]
+    expect("its lines", lines.replace("    ", ""), started((TOP / "sample" / "program.bin").read_bytes()))
     boots(0, lines.replace("    ", ""), *options.split())
 
 

@@ -50,7 +50,7 @@ fn begun(ram: &mut [u8], words: &mut [u32]) -> State {
     b.state
 }
 
-// Before the first frame.
+// No frame was acted on yet.
 fn going_on(state: State) -> Acted {
     Acted {
         answer: Answer::Continue,

@@ -32,13 +32,13 @@ flashOf s0 n0 s1 n1 d = record { slot0 = record { bytes = s0; size = n0 }; slot1
 
 -- the program is the slot's front part
 abbrev pub programIn : Slot → List ℕ
-programIn f = take (f .size) (f .bytes)
+programIn s = take (s .size) (s .bytes)
 
 -- a size of 0, over the slot or over the RAM's length m is stop 26
 abbrev pub fits : ℕ → ℕ → ℕ → Bool
 fits n slot m = leb 1 n && (leb n slot && leb n m)
 
--- what a session goes by
+-- what begin fixes, for a session and for a start from flash
 abbrev pub configOf : Contents → List ℕ → List ℕ → ℕ → Config
 configOf r udi builtIn m =
     record {
@@ -59,9 +59,9 @@ waitingWith c ram uds = unstarted continues (record { incoming = idle; config = 
 
 -- types 0 to 3, without a user secret: the program in the slot is measured, put at the front of RAM, and started if its digest is allowed
 unfoldable pub fromFlash : Slot → Config → List ℕ → List ℕ → Result
-fromFlash f c ram uds =
-    cond (fits (f .size) (length (f .bytes)) (length ram))
-    (decided c (ofSize phase.Loading (f .size)) (blake2s [] (programIn f) 32) (putIn ram (programIn f)) uds)
+fromFlash s c ram uds =
+    cond (fits (s .size) (length (s .bytes)) (length ram))
+    (decided c (ofSize phase.Loading (s .size)) (blake2s [] (programIn s) 32) (putIn ram (programIn s)) uds)
     (ending (stopped 26) (c .«ram_len») ram uds)
 
 -- by where the program comes from; an unknown type is stop 20

@@ -1,6 +1,6 @@
--- Known answers: loads, records, replies, strings, begins, calls and states as literal bytes, beside document 01. Of loads, records, replies and
--- strings no theorem about sessions can fix them, since a head and a reading of the same bytes would share the mistake; begins and calls are examples
--- of what `flash-exactly`, `table` and `whole-when` of `session` say of all. The proof is `known-answers` in proofs/KnownAnswers.antt.
+-- Known answers: loads, records, replies, strings, begins, calls and states as literal bytes, beside document 01. What a load, a record, a reply
+-- and a string are no theorem about sessions can fix, since a head and a reading of the same bytes would share the mistake; begins and calls are
+-- examples of what `flash-exactly`, `table` and `whole-when` of `session` say of all. The proof is `known-answers` in proofs/KnownAnswers.antt.
 use Prim.Native.Nat.{ℕ, _+_}
 use mathlib.Core.Path.{_≡_}
 use mathlib.Core.Bool.{true, false}
@@ -37,15 +37,15 @@ abbrev pub masked : ℕ → ℕ → ℕ → ℕ → List ℕ
 masked a b c d = padded 256 (4 ∷ 0 ∷ 0 ∷ 0 ∷ a ∷ b ∷ c ∷ d ∷ [])
 
 -- the digests of "abc" (RFC 7693, appendix B) and of one byte 0
-abbrev pub abc : List ℕ
-abc =
+abbrev pub digestOfAbc : List ℕ
+digestOfAbc =
     0x50 ∷ 0x8c ∷ 0x5e ∷ 0x8c ∷ 0x32 ∷ 0x7c ∷ 0x14 ∷ 0xe2 ∷
     0xe1 ∷ 0xa7 ∷ 0x2b ∷ 0xa3 ∷ 0x4e ∷ 0xeb ∷ 0x45 ∷ 0x2f ∷
     0x37 ∷ 0x45 ∷ 0x8b ∷ 0x20 ∷ 0x9e ∷ 0xd6 ∷ 0x3a ∷ 0x29 ∷
     0x4d ∷ 0x99 ∷ 0x9b ∷ 0x4c ∷ 0x86 ∷ 0x67 ∷ 0x59 ∷ 0x82 ∷ []
 
-abbrev pub zero : List ℕ
-zero =
+abbrev pub digestOfZero : List ℕ
+digestOfZero =
     0xe3 ∷ 0x4d ∷ 0x74 ∷ 0xdb ∷ 0xaf ∷ 0x4f ∷ 0xf4 ∷ 0xc6 ∷
     0xab ∷ 0xd8 ∷ 0x71 ∷ 0xcc ∷ 0x22 ∷ 0x04 ∷ 0x51 ∷ 0xd2 ∷
     0xea ∷ 0x26 ∷ 0x48 ∷ 0x84 ∷ 0x6c ∷ 0x77 ∷ 0x57 ∷ 0xfb ∷
@@ -56,8 +56,8 @@ abbrev pub flashed : ℕ → ℕ → List ℕ → Flash
 flashed n0 n1 builtIn = flashOf (97 ∷ 98 ∷ 99 ∷ 100 ∷ 101 ∷ []) n0 (0 ∷ []) n1 builtIn
 
 -- begin on a record of which these are the first bytes, with four bytes of RAM and the UDS 1 to 8
-abbrev pub booted : List ℕ → Flash → Result
-booted rec f = beginning (padded 256 rec) (zeros 8) f (9 ∷ 9 ∷ 9 ∷ 9 ∷ []) (1 ∷ 2 ∷ 3 ∷ 4 ∷ 5 ∷ 6 ∷ 7 ∷ 8 ∷ [])
+abbrev pub begunOn : List ℕ → Flash → Result
+begunOn rec f = beginning (padded 256 rec) (zeros 8) f (9 ∷ 9 ∷ 9 ∷ 9 ∷ []) (1 ∷ 2 ∷ 3 ∷ 4 ∷ 5 ∷ 6 ∷ 7 ∷ 8 ∷ [])
 
 -- a record of this type with mask 0, which requires this digest
 abbrev pub typed : ℕ → List ℕ → List ℕ
@@ -65,7 +65,7 @@ typed type required = type ∷ 0 ∷ 0 ∷ 0 ∷ 0 ∷ 0 ∷ 0 ∷ 0 ∷ require
 
 pub record Begins : Type 0 where
   -- a start from slot 0, of the first three bytes there
-  pub start : booted (typed 0 []) (flashed 3 1 abc) ≡ record {
+  pub start : begunOn (typed 0 []) (flashed 3 1 digestOfAbc) ≡ record {
     report = started 0x40000000 3;
     state = ended phase.Started 4;
     cdi =
@@ -73,27 +73,30 @@ pub record Begins : Type 0 where
         0x74 ∷ 0xc8 ∷ 0x59 ∷ 0x0c ∷ 0x7c ∷ 0xe0 ∷ 0x53 ∷ 0xd3 ∷
         0xe5 ∷ 0xb4 ∷ 0x0f ∷ 0xcd ∷ 0xb6 ∷ 0xf5 ∷ 0x24 ∷ 0x43 ∷
         0x7c ∷ 0x60 ∷ 0x3e ∷ 0xce ∷ 0x81 ∷ 0x21 ∷ 0xae ∷ 0x0d ∷ [];
-    digest = abc;
+    digest = digestOfAbc;
     ram = 97 ∷ 98 ∷ 99 ∷ 9 ∷ [];
     uds = zeros 8;
   }
   -- and a chained one from slot 1: mask 1, and 0xc0, 0xc1, .. for measured_id
-  pub chained : booted (1 ∷ 0 ∷ 0 ∷ 0 ∷ 1 ∷ 0 ∷ 0 ∷ 0 ∷ zeros 32 ++ each 32 (λ i. 0xc0 + i)) (flashed 3 1 []) .cdi ≡
+  pub chained : begunOn (1 ∷ 0 ∷ 0 ∷ 0 ∷ 1 ∷ 0 ∷ 0 ∷ 0 ∷ zeros 32 ++ each 32 (λ i. 0xc0 + i)) (flashed 3 1 []) .cdi ≡
       0x8c ∷ 0x8f ∷ 0xda ∷ 0x2d ∷ 0xfb ∷ 0x6a ∷ 0x03 ∷ 0x26 ∷
       0x79 ∷ 0x3c ∷ 0x23 ∷ 0xe3 ∷ 0xd6 ∷ 0x69 ∷ 0x9a ∷ 0xf8 ∷
       0xe3 ∷ 0x4a ∷ 0xe8 ∷ 0x69 ∷ 0x73 ∷ 0x40 ∷ 0xf1 ∷ 0x09 ∷
       0xa7 ∷ 0xe4 ∷ 0x07 ∷ 0x26 ∷ 0xfa ∷ 0x51 ∷ 0x78 ∷ 0x82 ∷ []
   -- each type: its slot, and the digest that it requires; type 0 not the record's, types 2 and 3 not the built-in one, type 1 none
-  pub types : (booted (typed 0 abc) (flashed 3 1 zero) .report ≡ stopped 25) × (booted (typed 1 abc) (flashed 3 1 abc) .report ≡ started 0x40000000 1)
-      × (booted (typed 2 abc) (flashed 3 1 zero) .report ≡ started 0x40000000 3) × (booted (typed 3 zero) (flashed 3 1 abc) .report ≡ started 0x40000000 1)
-      × (booted (typed 3 abc) (flashed 3 1 zero) .report ≡ stopped 25) × (booted (typed 4 []) (flashed 0 0 []) .report ≡ continues)
-      × (booted (typed 5 []) (flashed 0 0 []) .report ≡ continues) × (booted (typed 6 []) (flashed 3 1 []) .report ≡ stopped 20)
+  pub types : (begunOn (typed 0 digestOfAbc) (flashed 3 1 digestOfZero) .report ≡ stopped 25)
+      × (begunOn (typed 1 digestOfAbc) (flashed 3 1 digestOfAbc) .report ≡ started 0x40000000 1)
+      × (begunOn (typed 2 digestOfAbc) (flashed 3 1 digestOfZero) .report ≡ started 0x40000000 3)
+      × (begunOn (typed 3 digestOfZero) (flashed 3 1 digestOfAbc) .report ≡ started 0x40000000 1)
+      × (begunOn (typed 3 digestOfAbc) (flashed 3 1 digestOfZero) .report ≡ stopped 25)
+      × (begunOn (typed 4 []) (flashed 0 0 []) .report ≡ continues) × (begunOn (typed 5 []) (flashed 0 0 []) .report ≡ continues)
+      × (begunOn (typed 6 []) (flashed 3 1 []) .report ≡ stopped 20)
   -- the program of a stop 25 stays in RAM, and the UDS as it was
-  pub stop : booted (typed 2 zero) (flashed 3 1 abc) ≡ ending (stopped 25) 4 (97 ∷ 98 ∷ 99 ∷ 9 ∷ []) (1 ∷ 2 ∷ 3 ∷ 4 ∷ 5 ∷ 6 ∷ 7 ∷ 8 ∷ [])
+  pub stop : begunOn (typed 2 digestOfZero) (flashed 3 1 digestOfAbc) ≡ ending (stopped 25) 4 (97 ∷ 98 ∷ 99 ∷ 9 ∷ []) (1 ∷ 2 ∷ 3 ∷ 4 ∷ 5 ∷ 6 ∷ 7 ∷ 8 ∷ [])
   -- sizes 0, of the slot and one more; as long as the RAM and one more, which is as long as the slot
-  pub sizes : (booted (typed 1 []) (flashed 3 0 []) .report ≡ stopped 26) × (booted (typed 1 []) (flashed 3 1 []) .report ≡ started 0x40000000 1)
-      × (booted (typed 1 []) (flashed 3 2 []) .report ≡ stopped 26) × (booted (typed 2 []) (flashed 4 1 []) .report ≡ stopped 25)
-      × (booted (typed 2 []) (flashed 5 1 []) ≡ ending (stopped 26) 4 (9 ∷ 9 ∷ 9 ∷ 9 ∷ []) (1 ∷ 2 ∷ 3 ∷ 4 ∷ 5 ∷ 6 ∷ 7 ∷ 8 ∷ []))
+  pub sizes : (begunOn (typed 1 []) (flashed 3 0 []) .report ≡ stopped 26) × (begunOn (typed 1 []) (flashed 3 1 []) .report ≡ started 0x40000000 1)
+      × (begunOn (typed 1 []) (flashed 3 2 []) .report ≡ stopped 26) × (begunOn (typed 2 []) (flashed 4 1 []) .report ≡ stopped 25)
+      × (begunOn (typed 2 []) (flashed 5 1 []) ≡ ending (stopped 26) 4 (9 ∷ 9 ∷ 9 ∷ 9 ∷ []) (1 ∷ 2 ∷ 3 ∷ 4 ∷ 5 ∷ 6 ∷ 7 ∷ 8 ∷ []))
   -- refusals in their order, of record, RAM and UDS
   pub refusals : (beginning [] [] (flashed 0 0 []) [] [] .report ≡ refused 5) × (beginning [] [] (flashed 0 0 []) [] (zeros 8) .report ≡ refused 6)
       × (beginning (zeros 256) [] (flashed 0 0 []) [] (zeros 8) .report ≡ refused 7)

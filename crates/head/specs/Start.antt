@@ -17,7 +17,7 @@ use Rattle.head.specs.declared.State.{State}
 abbrev pub unstarted : Report → State → List ℕ → List ℕ → Result
 unstarted report s ram uds = record { report = report; state = s; cdi = zeros 32; digest = zeros 32; ram = ram; uds = uds }
 
--- and an end, for a RAM of m bytes
+-- no start, and the state of an end, for a RAM of m bytes
 abbrev pub ending : Report → ℕ → List ℕ → List ℕ → Result
 ending report m ram uds = unstarted report (ended phase.Stopped m) ram uds
 
@@ -25,7 +25,8 @@ ending report m ram uds = unstarted report (ended phase.Stopped m) ram uds
 abbrev pub allowed : Config → List ℕ → Bool
 allowed c d = cond (c .verify) (same d (c .required)) true
 
--- a start gives the CDI, the digest d, the address and the size; each word of the UDS is then zero
+-- a start gives the CDI, the digest d, the address and the size; each word of the UDS is then zero. Of the progress only size and user secret are
+-- read
 unfoldable pub starting : Config → Progress → List ℕ → List ℕ → List ℕ → Result
 starting c p d ram uds =
     record {

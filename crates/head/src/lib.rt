@@ -88,7 +88,7 @@ pub enum Refusal {
     OutOfTurn,
 }
 
-// Why the head stopped: document 01's stops, and 26 of change request 3. Begin gives 20, 25 and 26, `gather` 22, `act` 23 to 25.
+// Why the head stopped: document 01's stops 20 and 22 to 25, and 26 of change request 3. Begin gives 20, 25 and 26, `gather` 22, `act` 23 to 25.
 pub enum Stop {
     // The record's type is 6 or above.
     UnknownType,
@@ -117,7 +117,7 @@ pub enum Answer {
     Started { address: u32, size: u32 },
 }
 
-// What begin gives back.
+// What begin gives back, and what comes of a program that was measured.
 pub struct Begun {
     pub answer: Answer,
     // The CDI and the program's digest at a start; otherwise zeros.
@@ -171,7 +171,7 @@ pub fn refusal_number(r: Refusal) -> u8
     }
 }
 
-// The number of a stop: document 01's, and 26 of change request 3.
+// The number of a stop.
 pub fn stop_number(s: Stop) -> u8
     ensures { λ x. ⌜ x ≡ stopNumber s ⌝ }
 {

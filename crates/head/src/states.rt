@@ -1,4 +1,4 @@
-// The state: the range of each field (docs/STATES.md), and what it is after a start or a stop.
+// The state: the range of each field (docs/STATES.md), and what it is after a start or a stop; the tests of a program's digest and size.
 ghost use mathlib.Core.Path.{_≡_};
 ghost use Rattle.head.specs.Start.{allowed};
 ghost use Rattle.head.specs.Begin.{fits};

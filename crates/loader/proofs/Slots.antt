@@ -8,14 +8,14 @@ use native.Mathlib.Nat.{zero-add}
 use lib.Dec.{leb}
 use lib.ListN.{length, take}
 use lib.Seq.{paste, take-all, take-length, length-take-le}
-use borrow.Author.Tests.{leb-true, leb-false, le-leb, lt-leb}
+use borrow.Author.Tests.{leb-true, leb-false, le-leb}
 use Rattle.rfc7693.specs.Rfc7693.{blake2s}
 use Rattle.protocol.specs.Replies.{putIn}
 use Rattle.record.specs.Record.{Contents}
 use Rattle.record.specs.Types.{Source, sourceAt, sourceOf}
 use Rattle.record.specs.declared.Place.{Place}
 use Rattle.head.specs.State.{ofSize}
-use Rattle.head.specs.Answers.{stopped, Result, resultOf}
+use Rattle.head.specs.Answers.{stopped, resultOf}
 use Rattle.head.specs.Start.{ending, decided}
 use Rattle.head.specs.Begin.{Flash, configOf, fits, fromFlash, bySource, byType}
 use Rattle.head.proofs.Ranges.{fit-facts}

@@ -135,7 +135,7 @@ fn next_block(p: Progress) -> Progress
     next
 }
 
-// The last reply, with how the load ended.
+// How the load ended, with the last reply.
 fn replied(x: Begun) -> Acted
     ensures { λ r. ⌜ ((room ram uds : List ℕ) → outcome r room ram uds ≡ replied 129 room (resultOf x ram uds)) ⌝ }
 {
@@ -165,7 +165,7 @@ fn finish(s: State, room: &mut [u8], ram: &mut [u8], uds: &mut [u32]) -> Acted
     let digest = super::memory::measure(&ram[..n]);
     let reply = protocol::digest_reply(s.incoming.header, digest);
     super::memory::put(room, reply);
-    replied(super::starting::decide(c, p, digest, uds))
+    replied(super::starting::start_or_stop(c, p, digest, uds))
 }
 
 // A block.

@@ -12,7 +12,7 @@ use head::Config;
 use head::Phase;
 use head::Stop;
 
-// The front part of slot 1 or of slot 0: the program itself, lent back without copying.
+// The first n bytes of slot 1 if `second`, otherwise of slot 0, or all if there are fewer: lent back without copying.
 fn front<'a>(slot0: &'a [u8], slot1: &'a [u8], second: bool, n: usize) -> &'a [u8]
     ensures { λ r. ⌜ now r ≡ take n (cond second (now (slot1 .entry)) (now (slot0 .entry))) ⌝ }
 {
@@ -22,7 +22,8 @@ fn front<'a>(slot0: &'a [u8], slot1: &'a [u8], second: bool, n: usize) -> &'a [u
     endian::first(slot0, n)
 }
 
-// The program of this size in slot 1 or in slot 0 is measured, put in RAM and started, if it is allowed.
+// The program of this size in slot 1 or in slot 0 is measured, put in RAM and started, if it is allowed. Its front part is shorter than the size
+// exactly where the slot is.
 pub fn boot<'a>(
     c: Config,
     slot0: &'a [u8],
@@ -42,5 +43,5 @@ pub fn boot<'a>(
     let digest = super::memory::measure(program);
     super::memory::copy_to(ram, 0, program);
     let p = head::of_size(Phase::Loading, size as u32);
-    super::starting::decide(c, p, digest, uds)
+    super::starting::start_or_stop(c, p, digest, uds)
 }

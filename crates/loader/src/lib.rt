@@ -1,4 +1,4 @@
-// The boot loader of a loom head: bytes from the cable in, replies out, until a program starts or the head stops.
+// The boot loader of a loom head: bytes from the cable in and replies out, or a program from flash, until one starts or the head stops.
 // Its state, its answers and what each call does are defined in `head`, whose types and whose `gather` stand here too.
 mod acting;
 mod beginning;
@@ -29,8 +29,8 @@ pub use head::stop_number;
 
 // Begins: from the reset record, the device's identity (UDI), two slots of flash with the size of the program in each, and the digest that is
 // built in for type 0. Where the type asks for a client program, a session begins, whose calls of `act` are lent a RAM as long as this one.
-// Where it asks for one from flash, this call is the whole boot. After anything but `Continue` every later call on the state is refused, and
-// a refused call changes nothing.
+// Where it asks for one from flash, this call is the whole boot: the program goes to the front of RAM, and a start clears the device secret.
+// After anything but `Continue` every later call on the state is refused, and a refused call changes nothing.
 pub fn begin<'a>(
     record: &[u8],
     udi: [u8; 8],

@@ -1,4 +1,4 @@
-// A program that is in RAM and was measured: it starts, or the head stops.
+// A program that is in RAM and was measured, a client's or one from flash: it starts, or the head stops.
 ghost use mathlib.Core.Path.{_≡_};
 ghost use mathlib.Core.List.{List};
 ghost use Prim.Native.Nat.{ℕ};
@@ -12,7 +12,7 @@ use head::Phase;
 use head::Progress;
 use head::Stop;
 
-// No start, and the end of a session.
+// No start: a stop, or a refused begin.
 pub fn end(answer: Answer, ram_len: usize) -> Begun
     ensures { λ r. ⌜ ((ram uds : List ℕ) → resultOf r ram uds ≡ ending (reportOf answer) «ram_len» ram uds) ⌝ }
 {
@@ -47,7 +47,7 @@ fn start(c: Config, p: Progress, digest: [u8; 32], uds: &mut [u32]) -> Begun
 }
 
 // Starts the program if its digest is allowed. Otherwise the head stops with 25, and the device secret is not read.
-pub fn decide(c: Config, p: Progress, digest: [u8; 32], uds: &mut [u32]) -> Begun
+pub fn start_or_stop(c: Config, p: Progress, digest: [u8; 32], uds: &mut [u32]) -> Begun
     requires { ⌜ length (now uds) ≡ 8 ⌝ }
     ensures { λ r. ⌜ ((ram : List ℕ) → resultOf r ram (now (uds .exit)) ≡ decided c p digest ram (now (uds .entry))) ⌝ }
 {

@@ -2,7 +2,7 @@
 use Prim.Native.Nat.{ℕ, _+_, _-_, _^_, _<_, _≤_}
 use native.Mathlib.Omega.{arith}
 use mathlib.Core.Bool.{Bool, true, false}
-use mathlib.Core.Path.{_≡_, refl}
+use mathlib.Core.Path.{_≡_, refl, sym, ap, _∙_}
 use mathlib.Core.List.{List, [], _∷_, append-nil}
 use lib.Dec.{eqb, ltb}
 use lib.ListN.{length, take, drop, length-take, length-drop, drop-of-length-le}
@@ -14,6 +14,7 @@ use Rattle.text.proofs.Proved.{texts}
 use Rattle.printer.specs.Lines.{waitingLine, errorLine}
 use Rattle.printer.specs.Output.{afterBegin, afterByte, callText, outputFrom, output}
 use Rattle.printer.specs.Turns.{turnOf, opening, loop, turns}
+use Rattle.printer.proofs.NoFlash.{ram-stays}
 use Rattle.printer.proofs.Lengths.{Short, waiting-short, error-short, call-short, begin-short, byte-short}
 
 loop-is : (bytes : List ℕ) (o : Outcome) (n : ℕ) → Short o → n + length bytes < 2 ^ 64
@@ -37,7 +38,11 @@ long : (input : List ℕ) (m : ℕ) → 296 ≤ length input → length input < 
 unfolding output opening afterBegin
 long input m h l =
     let n : length (take 296 input) ≡ 296 = rw length-take (omega arith) in
-    rw (n, append-nil, le-ltb (length input) 296 h) (loop-is (drop 296 input) (afterBegin (take 296 input) (zeros m)) 0 (begin-short (take 296 input) (zeros m)) (rw length-drop (omega arith)))
+    let o = afterBegin (take 296 input) (zeros m) in
+    let opened : zeros m ≡ o .ram = sym (ram-stays _ _ (zeros m) _) in
+    rw (n, append-nil, le-ltb (length input) 296 h)
+    (ap (λ (r : List ℕ). loop (turnOf 0 o) r 296 (drop 296 input)) opened
+    ∙ loop-is (drop 296 input) o 0 (begin-short (take 296 input) (zeros m)) (rw length-drop (omega arith)))
 
 pub folds : (input : List ℕ) (m : ℕ) → length input < 2 ^ 64 → turns input m ≡ output input m
 folds input m l = go (ltb (length input) 296) refl

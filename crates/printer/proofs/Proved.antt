@@ -16,6 +16,7 @@ use Rattle.text.specs.Text.{decimalOf}
 use Rattle.printer.specs.Output.{afterBegin, afterByte, output}
 use Rattle.printer.specs.Theorems.{Printer}
 use Rattle.printer.proofs.Folds.{folds}
+use Rattle.printer.proofs.NoFlash.{stop-at-begin}
 
 pub printer : Printer
 unfolding output decimalOf afterBegin afterByte beginning fromFlash decided gatherRefusal gathered byteStep actRefusal acted inRange ended putIn recordAt word headerAt nameReply udiReply replyHeader headerByte loadIn loadAnswer loadReply afterLoad actedBlock finishedWith starting digestReply cdiString cdiOf rotr words firstBytes iv sigma added xorRotated G workVector round rounds F input blockAt blockCount leading compressions compressed initial blake2s
@@ -23,7 +24,8 @@ printer = record {
   folds = folds;
   example = refl;
   start = refl;
-  stop-at-begin = (refl, (refl, (refl, (refl, tt))));
+  stop-at-begin = stop-at-begin;
+  stop-26 = refl;
   stop-22 = refl;
   short = refl;
 }

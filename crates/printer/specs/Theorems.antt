@@ -1,9 +1,12 @@
 -- What is proved about the output, besides the promises. The proof is `printer` in proofs/Proved.antt.
-use Prim.Native.Nat.{ℕ, _+_, _^_, _<_}
+use Prim.Native.Nat.{ℕ, _+_, _^_, _<_, _≤_}
+use mathlib.Core.Bool.{true}
 use mathlib.Core.Path.{_≡_}
 use mathlib.Core.List.{List, [], _∷_, _++_}
 use lib.ListN.{length, replicate}
-use Rattle.endian.specs.Lists.{each, padded, zeros, All}
+use Rattle.endian.specs.Lists.{each, padded, zeros}
+use Rattle.record.specs.Record.{typeField, numberIn}
+use Rattle.protocol.specs.Commands.{lengthOk}
 use Rattle.text.specs.Text.{ascii}
 use Rattle.printer.specs.Output.{Output, output}
 use Rattle.printer.specs.Turns.{turns}
@@ -40,8 +43,11 @@ pub record Printer : Type 0 where
       ++ ascii "R 1104000000\n"
       ++ ascii "R 1307004c76401a2032527062b60916f252f41b5e3d75a3fa50a6376b3aedb9f59d8c9a" ++ replicate 188 48 ++ ascii "\n"
       ++ ascii "S 1 cc8dc0a1d59dd1ea76ba0012c01125e71a4b873c0ff2e1ea1636e02f35b7b287\n") 556
-  -- types 0 to 3 stop at begin, since nothing is in flash, and nothing is received
-  pub stop-at-begin : All (λ t. output (t ∷ zeros 295 ++ 0x10 ∷ 0x01 ∷ []) 32768 ≡ gives (ascii "F 26\n") 296) (0 ∷ 1 ∷ 2 ∷ 3 ∷ [])
+  -- types 0 to 3 stop at begin, since nothing is in flash, and nothing is received: change request 3
+  pub stop-at-begin : (input : List ℕ) (m : ℕ) → 296 ≤ length input → numberIn typeField input ≤ 3 → lengthOk m ≡ true
+      → output input m ≡ gives (ascii "F 26\n") 296
+  -- type 0, which is a record of zeros
+  pub stop-26 : output (zeros 296 ++ 0x10 ∷ 0x01 ∷ []) 32768 ≡ gives (ascii "F 26\n") 296
   -- the header 90
   pub stop-22 : output (front ++ 0x90 ∷ 0x10 ∷ 0x01 ∷ []) 32768 ≡ gives (ascii "F 22\n") 297
   -- 295 bytes

@@ -37,10 +37,6 @@ unfoldable pub opening : List ℕ → ℕ → List ℕ → Turn
 opening front got ram =
     cond (ltb got 296) (record { session = beginTurn front ram .session; text = textOf (errorLine 1); over = true }) (beginTurn front ram)
 
--- and what RAM then holds
-abbrev pub openedRam : List ℕ → List ℕ → List ℕ
-openedRam front ram = afterBegin front ram .ram
-
 -- the input has ended
 abbrev pub waited : Session → Turn
 waited s = record { session = s; text = textOf (waitingLine (s .received)); over = true }
@@ -76,4 +72,4 @@ loop t ram n (b ∷ bytes) =
 abbrev pub turns : List ℕ → ℕ → Output
 turns input m =
     let front = take 296 input in
-    loop (opening (padded 296 front) (length front) (zeros m)) (openedRam (padded 296 front) (zeros m)) (length front) (drop 296 input)
+    loop (opening (padded 296 front) (length front) (zeros m)) (zeros m) (length front) (drop 296 input)

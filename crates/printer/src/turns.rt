@@ -5,7 +5,7 @@ ghost use Rattle.head.specs.Answers.{reportOf};
 ghost use Rattle.head.specs.Act.{acted};
 ghost use Rattle.text.specs.Text.{textOf};
 ghost use Rattle.printer.specs.Output.{replyText, isOver};
-ghost use Rattle.printer.specs.Turns.{turnOf, silent, beginTurn, opening, openedRam, turned, ramAfter, waited};
+ghost use Rattle.printer.specs.Turns.{turnOf, silent, beginTurn, opening, turned, ramAfter, waited};
 ghost use Rattle.printer.specs.declared.turns.Next.the-variants as next;
 use super::input;
 use super::lines;
@@ -38,7 +38,7 @@ pub struct Turn {
 // refused; document 01 has no line for that, and it is printed as `E 7`.
 pub fn open(front: [u8; 296], got: usize, ram: &mut [u8]) -> Turn
     ensures turn { λ r. ⌜ r ≡ opening front got (now (ram .entry)) ⌝ }
-    ensures ram { λ r. ⌜ now (ram .exit) ≡ openedRam front (now (ram .entry)) ⌝ }
+    ensures ram { λ r. ⌜ now (ram .exit) ≡ now (ram .entry) ⌝ }
 {
     let t = begin(front, ram);
     if got < 296 {
@@ -52,10 +52,10 @@ pub fn open(front: [u8; 296], got: usize, ram: &mut [u8]) -> Turn
     t
 }
 
-// Begins with record, UDS and UDI.
+// Begins with record, UDS and UDI; nothing is in flash, so RAM stays.
 fn begin(front: [u8; 296], ram: &mut [u8]) -> Turn
     ensures turn { λ r. ⌜ r ≡ beginTurn front (now (ram .entry)) ⌝ }
-    ensures ram { λ r. ⌜ now (ram .exit) ≡ openedRam front (now (ram .entry)) ⌝ }
+    ensures ram { λ r. ⌜ now (ram .exit) ≡ now (ram .entry) ⌝ }
 {
     let mut words = input::words_of(front);
     let begun = input::begin(front, ram, &mut words);

@@ -26,9 +26,9 @@ replyWith h n body = record { header = replyHeader h n; len = n; body = body }
 abbrev pub sent : Reply → List ℕ
 sent r = r .header ∷ take (r .len) (r .body)
 
--- a room with a frame at its front: only the frame's bytes are written
+-- what is lent, with these bytes at its front: only they are written. A room for a frame, or RAM for a program from flash
 unfoldable pub putIn : List ℕ → List ℕ → List ℕ
-putIn room frame = frame ++ drop (length frame) room
+putIn lent s = s ++ drop (length s) lent
 
 -- 0x01, name and version: "tk1 ", "mkdf", version 1 in four bytes
 unfoldable pub nameReply : ℕ → Reply

@@ -1,5 +1,5 @@
 // The reset record, which the program before a reset leaves for the loader.
-// Document 01, "Reset record and lent memory", in the terms of specs/Record.antt.
+// Document 01, "Reset record and lent memory", in the terms of specs/Record.antt and specs/Types.antt.
 ghost use mathlib.Core.Path.{_≡_};
 ghost use Prim.Native.Nat.{_+_, _≤_};
 ghost use lib.ListN.{length, take, drop};

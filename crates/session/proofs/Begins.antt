@@ -22,8 +22,9 @@ use Rattle.head.specs.Act.{actRefusal, acted}
 use Rattle.head.proofs.Ranges.{never, by-test, fit-facts, length-facts}
 use Rattle.head.proofs.Admitted.{begin-admitted, act-admitted}
 use Rattle.head.proofs.Proved.{head-theorems}
-use Rattle.session.specs.Session.{Reset, begun, typeOf, AsksClient, Admitted, Call, gather, act, Entry, acts, entryOf, callOf, reportIn, stateAfter, log, isAccepted, accepted, isEnd, hasEnded, completes, refusalIn}
-use Rattle.session.specs.Boot.{digest, chosen, flashBasis, AsksFlash, Fits, FlashAllowed}
+use Rattle.session.specs.Reading.{typeOf}
+use Rattle.session.specs.Session.{Reset, begun, AsksFlash, AsksClient, Admitted, Call, gather, act, Entry, acts, entryOf, callOf, reportIn, stateAfter, log, isAccepted, accepted, isEnd, hasEnded, completes, refusalIn}
+use Rattle.session.specs.Boot.{digest, chosen, flashBasis, Fits, FlashAllowed}
 use Rattle.session.proofs.Resets.{config, allows}
 use Rattle.session.proofs.Gathering.{is-part}
 use Rattle.session.proofs.Acting.{at}
@@ -78,7 +79,7 @@ module _ (R : Reset) where
   pub does-fit : Fits R → fitting ≡ true
   does-fit f =
       let n = chosen R .size in
-      let some : 1 ≤ n = omega (arith, f .some) in
+      let some : 1 ≤ n = omega (arith, f .not-empty) in
       let in-slot : n ≤ length (chosen R .bytes) = omega (arith, f .in-slot) in
       let in-ram : n ≤ length (R .ram) = omega (arith, f .in-ram) in
       rw (le-leb 1 n some, le-leb n (length (chosen R .bytes)) in-slot, le-leb n (length (R .ram)) in-ram)
@@ -86,7 +87,7 @@ module _ (R : Reset) where
   it-fits : fitting ≡ true → Fits R
   it-fits e =
       let g = fit-facts (chosen R .size) (length (chosen R .bytes)) (length (R .ram)) e in
-      record { some = omega (arith, g .0); in-slot = omega (arith, g .1); in-ram = omega (arith, g .2) }
+      record { not-empty = omega (arith, g .0); in-slot = omega (arith, g .1); in-ram = omega (arith, g .2) }
 
   -- what begin settles where it starts that program, and where it does not
   abbrev pub booted : Result
@@ -99,21 +100,21 @@ module _ (R : Reset) where
   pub data Begins : Result → Type 0 where
     refuses : (k : ℕ) → (Admitted R → ⊥) → Begins (ending (refused k) 1 (R .ram) (R .uds))
     waits : Admitted R → AsksClient R → Begins (waitingWith (config R) (R .ram) (R .uds))
-    boots : AsksFlash R → Fits R → FlashAllowed R → Begins booted
-    halts-20 : Admitted R → 6 ≤ typeOf R → Begins (halted 20 (R .ram))
-    halts-25 : AsksFlash R → Fits R → (FlashAllowed R → ⊥) → Begins (halted 25 (putIn (R .ram) (flashBasis R .program)))
-    halts-26 : AsksFlash R → (Fits R → ⊥) → Begins (halted 26 (R .ram))
+    boots : Admitted R → AsksFlash R → Fits R → FlashAllowed R → Begins booted
+    halts-20 : Admitted R → 6 ≤ typeOf (R .rec) → Begins (halted 20 (R .ram))
+    halts-25 : Admitted R → AsksFlash R → Fits R → (FlashAllowed R → ⊥) → Begins (halted 25 (putIn (R .ram) (flashBasis R .program)))
+    halts-26 : Admitted R → AsksFlash R → (Fits R → ⊥) → Begins (halted 26 (R .ram))
 
-  flash-begins : AsksFlash R → Begins (fromFlash (chosen R) (config R) (R .ram) (R .uds))
+  flash-begins : Admitted R → AsksFlash R → Begins (fromFlash (chosen R) (config R) (R .ram) (R .uds))
   unfolding fromFlash decided
-  flash-begins a =
+  flash-begins a q =
       let x = allows R (digest (flashBasis R)) in
       by-test Begins fitting _ _
       (λ f.
       by-test Begins (allowed (config R) (digest (flashBasis R))) _ _
-      (λ t. boots a (it-fits f) (x .0 t))
-      (λ t. halts-25 a (it-fits f) (λ y. never (sym (x .1 y) ∙ t))))
-      (λ f. halts-26 a (λ y. never (sym (does-fit y) ∙ f)))
+      (λ t. boots a q (it-fits f) (x .0 t))
+      (λ t. halts-25 a q (it-fits f) (λ y. never (sym (x .1 y) ∙ t))))
+      (λ f. halts-26 a q (λ y. never (sym (does-fit y) ∙ f)))
 
   pub begins : Begins (begun R)
   unfolding beginning recordAt
@@ -121,70 +122,91 @@ module _ (R : Reset) where
       by-test Begins (eqb number 0) _ _
       (λ z.
       let a = admitted (eqb-true number 0 z) in
-      by-type (R .flash) (config R) (R .ram) (R .uds) Begins (typeOf R) (λ t. flash-begins (a, t)) (waits a) (halts-20 a))
+      by-type (R .flash) (config R) (R .ram) (R .uds) Begins (typeOf (R .rec)) (flash-begins a) (waits a) (halts-20 a))
       (λ z. refuses number (λ a. eqb-false number 0 z (not-refused a)))
 
   -- ---- and the same from what is asked for
 
-  admitted-begun : Admitted R → begun R ≡ bySource (sourceOf (knownType (typeOf R))) (R .flash) (config R) (R .ram) (R .uds)
+  admitted-begun : Admitted R → begun R ≡ bySource (sourceOf (knownType (typeOf (R .rec)))) (R .flash) (config R) (R .ram) (R .uds)
   unfolding beginning recordAt
   admitted-begun a = rw (not-refused a)
 
-  by-kind : (x : Result) → Admitted R → (typeOf R ≤ 3 → fromFlash (chosen R) (config R) (R .ram) (R .uds) ≡ x)
-      → (AsksClient R → waitingWith (config R) (R .ram) (R .uds) ≡ x) → (6 ≤ typeOf R → halted 20 (R .ram) ≡ x) → begun R ≡ x
-  by-kind x a f w u = admitted-begun a ∙ by-type (R .flash) (config R) (R .ram) (R .uds) (λ (y : Result). y ≡ x) (typeOf R) f w u
+  by-kind : (x : Result) → Admitted R → (AsksFlash R → fromFlash (chosen R) (config R) (R .ram) (R .uds) ≡ x)
+      → (AsksClient R → waitingWith (config R) (R .ram) (R .uds) ≡ x) → (6 ≤ typeOf (R .rec) → halted 20 (R .ram) ≡ x) → begun R ≡ x
+  by-kind x a f w u = admitted-begun a ∙ by-type (R .flash) (config R) (R .ram) (R .uds) (λ (y : Result). y ≡ x) (typeOf (R .rec)) f w u
 
-  no-client : typeOf R ≤ 3 → AsksClient R → ⊥
+  no-client : AsksFlash R → AsksClient R → ⊥
   no-client h (inl e) = omega arith
   no-client h (inr e) = omega arith
 
-  client-known : AsksClient R → typeOf R ≤ 5
+  client-known : AsksClient R → typeOf (R .rec) ≤ 5
   client-known (inl e) = omega arith
   client-known (inr e) = omega arith
 
   pub client-waits : Admitted R → AsksClient R → begun R ≡ waitingWith (config R) (R .ram) (R .uds)
   client-waits a c = by-kind _ a (λ t. absurd (no-client t c)) (λ d. refl) (λ t. let k = client-known c in absurd (omega arith))
 
-  pub unknown-halts : Admitted R → 6 ≤ typeOf R → begun R ≡ halted 20 (R .ram)
+  pub unknown-halts : Admitted R → 6 ≤ typeOf (R .rec) → begun R ≡ halted 20 (R .ram)
   unknown-halts a u = by-kind _ a (λ t. absurd (omega arith)) (λ d. let k = client-known d in absurd (omega arith)) (λ t. refl)
 
-  flash-begun : AsksFlash R → begun R ≡ fromFlash (chosen R) (config R) (R .ram) (R .uds)
-  flash-begun a = by-kind _ (a .0) (λ t. refl) (λ c. absurd (no-client (a .1) c)) (λ t. let k = a .1 in absurd (omega arith))
+  flash-begun : Admitted R → AsksFlash R → begun R ≡ fromFlash (chosen R) (config R) (R .ram) (R .uds)
+  flash-begun a q = by-kind _ a (λ t. refl) (λ c. absurd (no-client q c)) (λ t. absurd (omega arith))
 
-  pub flash-boots : AsksFlash R → Fits R → FlashAllowed R → begun R ≡ booted
+  pub flash-boots : Admitted R → AsksFlash R → Fits R → FlashAllowed R → begun R ≡ booted
   unfolding fromFlash decided
-  flash-boots a f d = flash-begun a ∙ rw (does-fit f, allows R (digest (flashBasis R)) .1 d)
+  flash-boots a q f d = flash-begun a q ∙ rw (does-fit f, allows R (digest (flashBasis R)) .1 d)
 
-  pub flash-differs : AsksFlash R → Fits R → (FlashAllowed R → ⊥) → begun R ≡ halted 25 (putIn (R .ram) (flashBasis R .program))
+  pub flash-differs : Admitted R → AsksFlash R → Fits R → (FlashAllowed R → ⊥) → begun R ≡ halted 25 (putIn (R .ram) (flashBasis R .program))
   unfolding fromFlash decided
-  flash-differs a f n =
+  flash-differs a q f n =
       let e : allowed (config R) (digest (flashBasis R)) ≡ false = is-false _ (λ t. n (allows R (digest (flashBasis R)) .0 t)) in
-      flash-begun a ∙ rw (does-fit f, e)
+      flash-begun a q ∙ rw (does-fit f, e)
 
-  pub flash-unfit : AsksFlash R → (Fits R → ⊥) → begun R ≡ halted 26 (R .ram)
+  pub flash-unfit : Admitted R → AsksFlash R → (Fits R → ⊥) → begun R ≡ halted 26 (R .ram)
   unfolding fromFlash
-  flash-unfit a n = let e : fitting ≡ false = is-false _ (λ t. n (it-fits t)) in flash-begun a ∙ rw e
+  flash-unfit a q n = let e : fitting ≡ false = is-false _ (λ t. n (it-fits t)) in flash-begun a q ∙ rw e
 
 -- the state that a session begins with
 pub record Fresh (R : Reset) : Type 0 where
   pub state : begun R .state ≡ at R idle waiting
   pub lent : Admitted R
 
+pub begin-accepted : (R : Reset) → (isAccepted (begun R .report) ≡ true) ↔ Admitted R
+unfolding starting
+begin-accepted R = (only (begun R) (begins R), λ a. whenever a (begun R) (begins R))
+  where
+    only : (x : Result) → Begins R x → isAccepted (x .report) ≡ true → Admitted R
+    only x (refuses k n) e = never (sym e)
+    only x (waits a c) e = a
+    only x (boots a q f d) e = a
+    only x (halts-20 a u) e = a
+    only x (halts-25 a q f n) e = a
+    only x (halts-26 a q n) e = a
+
+    whenever : Admitted R → (x : Result) → Begins R x → isAccepted (x .report) ≡ true
+    whenever a x (refuses k n) = absurd (n a)
+    whenever a x (waits l c) = refl
+    whenever a x (boots l q f d) = refl
+    whenever a x (halts-20 l u) = refl
+    whenever a x (halts-25 l q f n) = refl
+    whenever a x (halts-26 l q n) = refl
+
+pub begin-waits : (R : Reset) → (begun R .report ≡ continues) ↔ (Admitted R × AsksClient R)
+unfolding starting
+begin-waits R = (only (begun R) (begins R), λ h. ap (λ (x : Result). x .report) (client-waits R (h .0) (h .1)))
+  where
+    only : (x : Result) → Begins R x → x .report ≡ continues → Admitted R × AsksClient R
+    only x (refuses k n) e = impossible cc
+    only x (waits a c) e = (a, c)
+    only x (boots a q f d) e = impossible cc
+    only x (halts-20 a u) e = impossible cc
+    only x (halts-25 a q f n) e = impossible cc
+    only x (halts-26 a q n) e = impossible cc
+
 pub fresh : (R : Reset) → isAccepted (begun R .report) ≡ true → AsksClient R → Fresh R
 fresh R e c =
-    let a = go (begun R) (begins R) e in
+    let a = begin-accepted R .0 e in
     record { state = ap (λ (y : Result). y .state) (client-waits R a c); lent = a }
-  where
-    go : (x : Result) → Begins R x → isAccepted (x .report) ≡ true → Admitted R
-    go x (refuses k n) e = never (sym e)
-    go x (waits a c) e = a
-    go x (boots a f d) e = a .0
-    go x (halts-20 a u) e = a
-    go x (halts-25 a f n) e = a .0
-    go x (halts-26 a n) e = a .0
-
-pub client-accepted : (R : Reset) → Admitted R → AsksClient R → isAccepted (begun R .report) ≡ true
-client-accepted R a c = ap (λ (y : Result). isAccepted (y .report)) (client-waits R a c)
 
 -- ---- where a client program is asked for
 
@@ -210,17 +232,9 @@ client-begun R c = go (eqb (number R) 0) c
     go true (inr e) = rw e refl
     go false c = refl
 
-pub client-begins : (R : Reset) → AsksClient R → (begun R .ram ≡ R .ram) × (begun R .uds ≡ R .uds)
-    × ((R′ : Reset) → R′ .rec ≡ R .rec → R′ .udi ≡ R .udi → length (R′ .ram) ≡ length (R .ram) → length (R′ .uds) ≡ length (R .uds)
-    → (begun R′ .report ≡ begun R .report) × (begun R′ .state ≡ begun R .state) × (begun R′ .cdi ≡ begun R .cdi) × (begun R′ .digest ≡ begun R .digest))
-client-begins R c =
-    let b = client-begun R c in (
-      ap (λ (x : Result). x .ram) b,
-      ap (λ (x : Result). x .uds) b,
-      λ R′ er eu em ew.
-          let c′ : AsksClient R′ = rw er c in
-          rw (client-begun R′ c′, b, er, eu, em, ew) (refl, refl, refl, refl),
-    )
+pub client-begins : (R R′ : Reset) → AsksClient R → R′ .rec ≡ R .rec → R′ .udi ≡ R .udi → length (R′ .ram) ≡ length (R .ram)
+    → length (R′ .uds) ≡ length (R .uds) → begun R′ ≡ unstarted (begun R .report) (begun R .state) (R′ .ram) (R′ .uds)
+client-begins R R′ c er eu em ew = let c′ : AsksClient R′ = rw er c in rw (client-begun R′ c′, client-begun R c, er, eu, em, ew)
 
 -- ---- refusals
 

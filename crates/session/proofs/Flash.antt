@@ -19,42 +19,42 @@ use Rattle.head.specs.Start.{starting}
 use Rattle.head.specs.Begin.{Slot, programIn}
 use Rattle.head.proofs.Ranges.{never}
 use Rattle.head.proofs.Proved.{front-is, beyond-is}
-use Rattle.session.specs.Reading.{Allowed}
-use Rattle.session.specs.Session.{Reset, begun, typeOf, Admitted}
-use Rattle.session.specs.Boot.{inSlot0, chosen, flashBasis, FlashStarted, AsksFlash, Fits, FlashAllowed, FlashGives, BeginStops, resetHolding}
+use Rattle.session.specs.Reading.{typeOf, Allowed}
+use Rattle.session.specs.Session.{Reset, begun, AsksFlash, Admitted}
+use Rattle.session.specs.Boot.{inSlot0, chosen, flashBasis, FlashStarted, Fits, FlashAllowed, FlashGives, BeginStops, resetHolding}
 use Rattle.session.proofs.Begins.{does-fit, booted, Begins, refuses, waits, boots, halts-20, halts-25, halts-26, begins, unknown-halts, flash-boots, flash-differs, flash-unfit}
-use Rattle.session.proofs.Strings.{Sound, string-size}
+use Rattle.session.proofs.Strings.{Sound, string-size, string-domain}
 
 -- ---- when begin starts a program, and what that gives
 
 module _ (R : Reset) where
-  only : (x : Result) → Begins R x → (a n : ℕ) → x .report ≡ started a n → AsksFlash R × Fits R × FlashAllowed R
+  only : (x : Result) → Begins R x → (a n : ℕ) → x .report ≡ started a n → Admitted R × AsksFlash R × Fits R × FlashAllowed R
   only x (refuses k b) a n e = impossible cc
   only x (waits l c) a n e = impossible cc
-  only x (boots q f d) a n e = (q, f, d)
+  only x (boots l q f d) a n e = (l, q, f, d)
   only x (halts-20 l u) a n e = impossible cc
-  only x (halts-25 q f d) a n e = impossible cc
-  only x (halts-26 q f) a n e = impossible cc
+  only x (halts-25 l q f d) a n e = impossible cc
+  only x (halts-26 l q f) a n e = impossible cc
 
-  pub flash-exactly : FlashStarted R ↔ (AsksFlash R × Fits R × FlashAllowed R)
+  pub flash-exactly : FlashStarted R ↔ (Admitted R × AsksFlash R × Fits R × FlashAllowed R)
   unfolding starting
   flash-exactly = (
     λ t. only (begun R) (begins R) (t .0) (t .1) (t .2),
-    λ b. (0x40000000, chosen R .size, ap (λ (x : Result). x .report) (flash-boots R (b .0) (b .1) (b .2))),
+    λ b. (0x40000000, chosen R .size, ap (λ (x : Result). x .report) (flash-boots R (b .0) (b .1) (b .2) (b .3))),
   )
 
-  module _ (a : AsksFlash R) (f : Fits R) (d : FlashAllowed R) where
+  module _ (a : Admitted R) (q : AsksFlash R) (f : Fits R) (d : FlashAllowed R) where
     abbrev size : ℕ
     size = chosen R .size
 
     begun-is : begun R ≡ booted R
-    begun-is = flash-boots R a f d
+    begun-is = flash-boots R a q f d
 
     program-length : length (flashBasis R .program) ≡ size
     program-length = length-take-le size (chosen R .bytes) (f .in-slot)
 
     pub flash-sound : Sound (flashBasis R)
-    flash-sound = record { eight = a .0 .eight; typed = R .typed; size = a .0 .record-length; secret = λ e. never (sym e) }
+    flash-sound = record { eight = a .eight; typed = R .typed; size = a .record-length; secret = λ e. never (sym e) }
 
     front : take size (begun R .ram) ≡ flashBasis R .program
     unfolding starting
@@ -71,9 +71,10 @@ module _ (R : Reset) where
                 report = ap (λ (x : Result). x .report) e ∙ ap (started 0x40000000) (sym n);
                 cdi = ap (λ (x : Result). x .cdi) e;
                 string-length = string-size (flashBasis R) flash-sound;
+                domain = string-domain (flashBasis R) flash-sound;
                 digests = ap (λ (x : Result). x .digest) e;
                 front = ap (λ (k : ℕ). take k (begun R .ram)) n ∙ front;
-                eight = a .0 .eight;
+                eight = a .eight;
                 cleared = ap (λ (x : Result). x .uds) e;
               };
           size = n;
@@ -98,8 +99,8 @@ module _ (R : Reset) where
   -- what each stop means, and what it leaves
   abbrev Meaning : ℕ → Type 0
   Meaning k =
-      cond (eqb k 20) (Admitted R × (6 ≤ typeOf R))
-      (cond (eqb k 25) (AsksFlash R × Fits R × (FlashAllowed R → ⊥)) (AsksFlash R × (Fits R → ⊥)))
+      cond (eqb k 20) (Admitted R × (6 ≤ typeOf (R .rec)))
+      (cond (eqb k 25) (Admitted R × AsksFlash R × Fits R × (FlashAllowed R → ⊥)) (Admitted R × AsksFlash R × (Fits R → ⊥)))
 
   abbrev ram-after : ℕ → List ℕ
   ram-after k = cond (eqb k 25) (putIn (R .ram) (flashBasis R .program)) (R .ram)
@@ -108,19 +109,19 @@ module _ (R : Reset) where
   unfolding starting
   stopped-by x (refuses j b) k e = impossible cc
   stopped-by x (waits l c) k e = impossible cc
-  stopped-by x (boots q f d) k e = impossible cc
+  stopped-by x (boots l q f d) k e = impossible cc
   stopped-by x (halts-20 l u) k e = subst (λ (j : ℕ). Meaning j × (R .ram ≡ ram-after j) × (R .uds ≡ R .uds)) (ap stopIn e) ((l, u), refl, refl)
-  stopped-by x (halts-25 q f d) k e =
-      subst (λ (j : ℕ). Meaning j × (putIn (R .ram) (flashBasis R .program) ≡ ram-after j) × (R .uds ≡ R .uds)) (ap stopIn e) ((q, f, d), refl, refl)
-  stopped-by x (halts-26 q f) k e = subst (λ (j : ℕ). Meaning j × (R .ram ≡ ram-after j) × (R .uds ≡ R .uds)) (ap stopIn e) ((q, f), refl, refl)
+  stopped-by x (halts-25 l q f d) k e =
+      subst (λ (j : ℕ). Meaning j × (putIn (R .ram) (flashBasis R .program) ≡ ram-after j) × (R .uds ≡ R .uds)) (ap stopIn e) ((l, q, f, d), refl, refl)
+  stopped-by x (halts-26 l q f) k e = subst (λ (j : ℕ). Meaning j × (R .ram ≡ ram-after j) × (R .uds ≡ R .uds)) (ap stopIn e) ((l, q, f), refl, refl)
 
   pub begin-stops : BeginStops R
   begin-stops =
       let by = stopped-by (begun R) (begins R) in
       record {
         stop-20 = (λ e. by 20 e .0, λ h. ap report-of (unknown-halts R (h .0) (h .1)));
-        stop-25 = (λ e. by 25 e .0, λ h. ap report-of (flash-differs R (h .0) (h .1) (h .2)));
-        stop-26 = (λ e. by 26 e .0, λ h. ap report-of (flash-unfit R (h .0) (h .1)));
+        stop-25 = (λ e. by 25 e .0, λ h. ap report-of (flash-differs R (h .0) (h .1) (h .2) (h .3)));
+        stop-26 = (λ e. by 26 e .0, λ h. ap report-of (flash-unfit R (h .0) (h .1) (h .2)));
         leaves = λ k e. (by k e .1, by k e .2);
       }
 
@@ -143,11 +144,11 @@ module _ (rec udi builtIn ram uds prog rest : List ℕ) (other : Slot) (typed : 
   held-program : flashBasis held-in .program ≡ prog
   held-program = ap programIn held ∙ take-append-seam prog rest
 
-  pub flash-exists : Admitted held-in → typeOf held-in ≤ 3 → 1 ≤ length prog → length prog ≤ length ram → Allowed rec builtIn (blake2s [] prog 32)
+  pub flash-exists : Admitted held-in → AsksFlash held-in → 1 ≤ length prog → length prog ≤ length ram → Allowed rec builtIn (blake2s [] prog 32)
       → FlashStarted held-in × (flashBasis held-in .program ≡ prog)
   flash-exists lent type least fits allows =
       let n : chosen held-in .size ≡ length prog = ap (λ (x : Slot). x .size) held in
       let l : length (chosen held-in .bytes) ≡ length prog + length rest = ap (λ (x : Slot). length (x .bytes)) held ∙ length-append prog rest in
-      let f : Fits held-in = record { some = rw n least; in-slot = omega arith; in-ram = rw n fits } in
+      let f : Fits held-in = record { not-empty = rw n least; in-slot = omega arith; in-ram = rw n fits } in
       let d = subst (Allowed rec builtIn) (ap (λ (x : List ℕ). blake2s [] x 32) (sym held-program)) allows in
-      (flash-exactly held-in .1 ((lent, type), f, d), held-program)
+      (flash-exactly held-in .1 (lent, type, f, d), held-program)

@@ -31,11 +31,11 @@ use Rattle.session.proofs.Gathering.{is-part}
 use Rattle.session.proofs.Entries.{lastFrom, last-from}
 use Rattle.session.proofs.Walk.{Wholes, wholes-at, is-live, StartRead, Walk, walk}
 use Rattle.session.proofs.Ranges.{ranges}
-use Rattle.session.proofs.Begins.{Fresh, fresh, client-accepted, client-begins, Runs, table-from}
+use Rattle.session.proofs.Begins.{Fresh, begin-accepted, begin-waits, fresh, client-begins, Runs, table-from}
 use Rattle.session.proofs.Starts.{whole-before, nothing-after}
 use Rattle.session.proofs.ClientFrames as made
 use Rattle.session.proofs.Sending.{callsFor, AllAccepted, all-accepted}
-use Rattle.session.proofs.Strings.{uss-length, Sound, string-size, same-basis}
+use Rattle.session.proofs.Strings.{uss-length, Sound, string-size, string-domain, same-basis}
 use Rattle.session.proofs.Flash.{flash-exactly, flash-sound, flash-gives, begin-stops, flash-exists}
 use Rattle.head.specs.declared.State.{State}
 
@@ -140,6 +140,7 @@ module _ (S : Session) where
                 report = l .report ∙ ap (started 0x40000000) (sym n);
                 cdi = l .cdi;
                 string-length = string-size (basisOf t) carried-sound;
+                domain = string-domain (basisOf t) carried-sound;
                 digests = l .digests;
                 front = ap (λ (k : ℕ). take k (t .out .ram)) n ∙ l .front;
                 eight = carried-sound .eight;
@@ -154,7 +155,7 @@ module _ (S : Session) where
 
 sound : (t : AnyStart) → Sound (basis t)
 sound (from-client S t) = carried-sound S t
-sound (from-flash R t) = let b = flash-exactly R .0 t in flash-sound R (b .0) (b .1) (b .2)
+sound (from-flash R t) = let b = flash-exactly R .0 t in flash-sound R (b .0) (b .1) (b .2) (b .3)
 
 -- ---- existence
 
@@ -172,7 +173,7 @@ module _ (R : Reset) (ram uds prog : List ℕ) (id : ℕ) (secret : Secret) (mak
 
   pub sent-accepted : AllAccepted uds typed sent ram false (log (begun R .state) sent-calls)
   sent-accepted =
-      let f = fresh R (client-accepted R lent client) client in
+      let f = fresh R (begin-accepted R .1 lent) client in
       all-accepted uds typed R eight sent [] [] (begun R .state) ram false (first-live R ram f) (first-runs R f) same-length
       (made.reading prog id secret makes R fits-reset allows sent refl)
 
@@ -181,7 +182,7 @@ module _ (R : Reset) (ram uds prog : List ℕ) (id : ℕ) (secret : Secret) (mak
   session =
       record {
         reset = R;
-        begins = client-accepted R lent client;
+        begins = begin-accepted R .1 lent;
         client = client;
         calls = sent-calls;
         ram = ram;
@@ -238,13 +239,15 @@ verified-boot =
       one-reading = λ S w w′.
           let o = one-reading (S .reset) (gatheredBytes (acceptedOf S)) w w′ in
           (o .0, o .1, o .2, one-basis (S .reset) (gatheredBytes (acceptedOf S)) w w′);
+      begin-accepted = begin-accepted;
+      begin-waits = begin-waits;
+      client-begins = client-begins;
       flash-exactly = flash-exactly;
-      flash-gives = λ R t. let b = flash-exactly R .0 t in flash-gives R (b .0) (b .1) (b .2);
+      flash-gives = λ R t. let b = flash-exactly R .0 t in flash-gives R (b .0) (b .1) (b .2) (b .3);
       begin-stops = begin-stops;
       injective = λ t t′. same-basis (basis t) (basis t′) (sound t) (sound t′);
       table = table;
       whole-when = whole-when;
-      client-begins = client-begins;
       exists = exists;
       flash-exists = flash-exists;
     }

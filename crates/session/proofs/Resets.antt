@@ -15,8 +15,8 @@ use Rattle.record.specs.Record.{requiredField, fieldOf, knownType, recordAt}
 use Rattle.record.specs.Types.{isType}
 use Rattle.head.specs.Start.{allowed}
 use Rattle.head.specs.Begin.{configOf}
-use Rattle.session.specs.Reading.{Allowed, Starting}
-use Rattle.session.specs.Session.{Reset, typeOf}
+use Rattle.session.specs.Reading.{typeOf, Allowed, Starting}
+use Rattle.session.specs.Session.{Reset}
 use Rattle.head.specs.declared.Config.{Config}
 
 -- the bytes of a start
@@ -42,7 +42,7 @@ is-type t n h = go (ltb t 6) refl
 -- the head's test of a digest: types that require the built-in one, the record's or none
 module _ (R : Reset) (d : List ℕ) where
   abbrev t : ℕ
-  t = typeOf R
+  t = typeOf (R .rec)
 
   abbrev Recorded : Type 0
   Recorded = (t ≡ 2) ⊎ ((t ≡ 3) ⊎ (t ≡ 5))

@@ -13,7 +13,7 @@ use Rattle.endian.proofs.Lists.{getD-each}
 use Rattle.endian.proofs.Words.{bytes-length}
 use Rattle.head.proofs.Ranges.{never, by-test}
 use Rattle.protocol.specs.Commands.{loadIn}
-use Rattle.cdi.specs.Cdi.{cdiString}
+use Rattle.cdi.specs.Cdi.{domainOf, cdiString}
 use Rattle.cdi.specs.Theorems.{Inputs, stringOf}
 use Rattle.cdi.proofs.Proved.{cdi}
 use Rattle.endian.specs.Lists.{zeros, Words}
@@ -122,6 +122,10 @@ module _ (b : Basis) (s : Sound b) where
   pub string-size : length (startString b) ≡ cond (b .used) 97 65
   unfolding inputs
   string-size = ap length (sym string-is) ∙ cdi .size inputs
+
+  pub string-domain : getD (startString b) 32 0 ≡ domainOf (b .used) (chained (b .rec))
+  unfolding inputs
+  string-domain = ap (λ (x : List ℕ). getD x 32 0) (sym string-is) ∙ cdi .domain inputs
 
 pub same-basis : (b b′ : Basis) → Sound b → Sound b′ → startString b ≡ startString b′ → Same b b′
 unfolding inputs

@@ -11,15 +11,15 @@ use lib.Dec.{eqb}
 use lib.ListN.{length, getD, take, drop}
 use Rattle.rfc7693.specs.Rfc7693.{blake2s}
 use Rattle.endian.specs.Endian.{bytes}
-use Rattle.cdi.specs.Cdi.{measurementOf, cdiString}
+use Rattle.cdi.specs.Cdi.{domainOf, measurementOf, cdiString}
 use Rattle.protocol.specs.Commands.{loadIn, usesUss}
 use Rattle.protocol.specs.Replies.{sent, digestReply, putIn}
-use Rattle.record.specs.Record.{typeField, numberIn}
 use Rattle.endian.specs.Lists.{zeros, All, Words}
-use Rattle.head.specs.Answers.{refused, whole, stopped, started, Gathering, Result, Outcome, unreplied}
-use Rattle.head.specs.Begin.{Slot}
-use Rattle.session.specs.Reading.{Good, forFirmware, sizeOf, programOf, Allowed, chained, measuredId, Starting}
-use Rattle.session.specs.Session.{Reset, begun, typeOf, AsksClient, Admitted, Loan, Entry, gathers, acts, callOf, reportIn, Among, gatheredBytes, Session, ramLen, allOf, acceptedOf, hasEnded, lastIs, isActing, completes, frameIsWhole, refusalIn}
+use Rattle.head.specs.Answers.{refused, continues, whole, stopped, started, Gathering, Result, Outcome, unreplied}
+use Rattle.head.specs.Start.{unstarted}
+use Rattle.head.specs.Begin.{Slot, programIn}
+use Rattle.session.specs.Reading.{Good, forFirmware, sizeOf, programOf, typeOf, Allowed, chained, measuredId, Starting}
+use Rattle.session.specs.Session.{Reset, begun, AsksFlash, AsksClient, Admitted, Loan, Entry, gathers, acts, callOf, reportIn, Among, isAccepted, gatheredBytes, Session, ramLen, allOf, acceptedOf, hasEnded, lastIs, isActing, completes, frameIsWhole, refusalIn}
 
 -- an accepted acting of the session answered a start
 pub record StartedAt (S : Session) (l : Loan) (o : Outcome) : Type 0 where
@@ -73,6 +73,7 @@ module _ (b : Basis) where
     pub report : x .report ≡ started 0x40000000 (length (b .program))
     pub cdi : x .cdi ≡ blake2s [] startString 32
     pub string-length : length startString ≡ cond (b .used) 97 65
+    pub domain : getD startString 32 0 ≡ domainOf (b .used) (chained (b .rec))
     pub digests : x .digest ≡ digest
     -- the program at the front of its RAM
     pub front : take (length (b .program)) (x .ram) ≡ b .program
@@ -137,7 +138,7 @@ pub record StartOf (R : Reset) (ram uds prog : List ℕ) (secret : Option (List 
 
 -- types 0 and 2 load slot 0, types 1 and 3 slot 1
 abbrev pub inSlot0 : List ℕ → Bool
-inSlot0 rec = eqb (numberIn typeField rec) 0 || eqb (numberIn typeField rec) 2
+inSlot0 rec = eqb (typeOf rec) 0 || eqb (typeOf rec) 2
 
 module _ (R : Reset) where
   abbrev pub chosen : Slot
@@ -145,19 +146,15 @@ module _ (R : Reset) where
 
   -- the chosen slot's front part; there is no user secret
   abbrev pub flashBasis : Basis
-  flashBasis = record { rec = R .rec; uds = R .uds; program = take (chosen .size) (chosen .bytes); used = false; uss = [] }
+  flashBasis = record { rec = R .rec; uds = R .uds; program = programIn chosen; used = false; uss = [] }
 
   -- begin answered a start
   abbrev pub FlashStarted : Type 0
   FlashStarted = (address : ℕ) × (size : ℕ) × (begun R .report ≡ started address size)
 
-  -- what begin gets is not refused, and its type asks for a program from flash
-  abbrev pub AsksFlash : Type 0
-  AsksFlash = Admitted R × (typeOf R ≤ 3)
-
   -- the size is good for slot and RAM
   pub record Fits : Type 0 where
-    pub some : 1 ≤ chosen .size
+    pub not-empty : 1 ≤ chosen .size
     pub in-slot : chosen .size ≤ length (chosen .bytes)
     pub in-ram : chosen .size ≤ length (R .ram)
 
@@ -176,13 +173,14 @@ module _ (R : Reset) where
 
   -- when begin stops; at 25 the program is in RAM, and at no stop is anything else changed
   pub record BeginStops : Type 0 where
-    pub stop-20 : (begun R .report ≡ stopped 20) ↔ (Admitted R × (6 ≤ typeOf R))
-    pub stop-25 : (begun R .report ≡ stopped 25) ↔ (AsksFlash × Fits × (FlashAllowed → ⊥))
-    pub stop-26 : (begun R .report ≡ stopped 26) ↔ (AsksFlash × (Fits → ⊥))
+    pub stop-20 : (begun R .report ≡ stopped 20) ↔ (Admitted R × (6 ≤ typeOf (R .rec)))
+    pub stop-25 : (begun R .report ≡ stopped 25) ↔ (Admitted R × AsksFlash R × Fits × (FlashAllowed → ⊥))
+    pub stop-26 : (begun R .report ≡ stopped 26) ↔ (Admitted R × AsksFlash R × (Fits → ⊥))
     pub leaves : (k : ℕ) → begun R .report ≡ stopped k
         → (begun R .ram ≡ cond (eqb k 25) (putIn (R .ram) (flashBasis .program)) (R .ram)) × (begun R .uds ≡ R .uds)
 
--- a reset of a head that has this program, and more bytes after it, in the slot that the record asks for
+-- that there are starts is said of resets written out: one of a head that has this program, and more bytes after it, in the slot that the record
+-- asks for
 abbrev pub resetHolding : (rec udi builtIn ram uds prog rest : List ℕ) → Slot → Words uds → Reset
 resetHolding rec udi builtIn ram uds prog rest other typed =
     let program : Slot = record { bytes = prog ++ rest; size = length prog } in
@@ -219,8 +217,15 @@ pub record VerifiedBoot : Type 0 where
   pub gives : (S : Session) (t : Start S) → Gives t
   pub one-reading : (S : Session) (w w′ : Reads S) → (w .opening ≡ w′ .opening) × (w .load ≡ w′ .load) × (w .blocks ≡ w′ .blocks)
       × ((uds : List ℕ) → carriedBasis w uds ≡ carriedBasis w′ uds)
+  -- begin is accepted exactly when none of its refusals applies, and a session begins exactly when a client program is then asked for
+  pub begin-accepted : (R : Reset) → (isAccepted (begun R .report) ≡ true) ↔ Admitted R
+  pub begin-waits : (R : Reset) → (begun R .report ≡ continues) ↔ (Admitted R × AsksClient R)
+  -- where one is asked for, nothing but the lengths of RAM and UDS matters of what begin is lent and given besides record and UDI; RAM and UDS
+  -- stay, and neither CDI nor digest is given
+  pub client-begins : (R R′ : Reset) → AsksClient R → R′ .rec ≡ R .rec → R′ .udi ≡ R .udi → length (R′ .ram) ≡ length (R .ram)
+      → length (R′ .uds) ≡ length (R .uds) → begun R′ ≡ unstarted (begun R .report) (begun R .state) (R′ .ram) (R′ .uds)
   -- begin answers a start exactly when a program from flash is asked for, fits and is allowed; every such start gives what it should
-  pub flash-exactly : (R : Reset) → FlashStarted R ↔ (AsksFlash R × Fits R × FlashAllowed R)
+  pub flash-exactly : (R : Reset) → FlashStarted R ↔ (Admitted R × AsksFlash R × Fits R × FlashAllowed R)
   pub flash-gives : (R : Reset) → FlashStarted R → FlashGives R
   -- and when it stops
   pub begin-stops : (R : Reset) → BeginStops R
@@ -233,11 +238,6 @@ pub record VerifiedBoot : Type 0 where
   -- endpoint 2; so the last byte of a frame for another endpoint is never answered with whole
   pub whole-when : (S : Session) (b : ℕ) (g : Gathering) (i : Among (gathers b g) (acceptedOf S))
       → (g .report ≡ whole) ↔ EndsWhole (gatheredBytes (i .before) ++ b ∷ [])
-  -- where a client program is asked for, nothing but the lengths of RAM and UDS matters of what begin is lent and given besides record and UDI,
-  -- and begin leaves it
-  pub client-begins : (R : Reset) → AsksClient R → (begun R .ram ≡ R .ram) × (begun R .uds ≡ R .uds)
-      × ((R′ : Reset) → R′ .rec ≡ R .rec → R′ .udi ≡ R .udi → length (R′ .ram) ≡ length (R .ram) → length (R′ .uds) ≡ length (R .uds)
-      → (begun R′ .report ≡ begun R .report) × (begun R′ .state ≡ begun R .state) × (begun R′ .cdi ≡ begun R .cdi) × (begun R′ .digest ≡ begun R .digest))
   -- every program of 1 byte to the RAM's length starts, if the record allows it, with any user secret or none, whatever RAM and UDS hold
   pub exists : (R : Reset) (ram uds prog : List ℕ) (flag : Bool) (uss : List ℕ)
       → Admitted R → AsksClient R → length ram ≡ length (R .ram)
@@ -247,5 +247,5 @@ pub record VerifiedBoot : Type 0 where
   -- there, and whatever the other slot holds
   pub flash-exists : (rec udi builtIn ram uds prog rest : List ℕ) (other : Slot) (typed : Words uds)
       → let R = resetHolding rec udi builtIn ram uds prog rest other typed in
-      Admitted R → typeOf R ≤ 3 → 1 ≤ length prog → length prog ≤ length ram → Allowed rec builtIn (blake2s [] prog 32)
+      Admitted R → AsksFlash R → 1 ≤ length prog → length prog ≤ length ram → Allowed rec builtIn (blake2s [] prog 32)
       → FlashStarted R × (flashBasis R .program ≡ prog)

@@ -72,10 +72,14 @@ programOf load blocks = take (sizeOf load) (carried blocks)
 abbrev pub digestOf : List ℕ → List (List ℕ) → List ℕ
 digestOf load blocks = blake2s [] (programOf load blocks) 32
 
+-- the type of a record
+abbrev pub typeOf : List ℕ → ℕ
+typeOf rec = numberIn typeField rec
+
 -- a program of this digest may start: type 0 requires the built-in digest, types 2, 3 and 5 record bytes 8 to 39, and types 1 and 4 none
 pub record Allowed (rec builtIn d : List ℕ) : Type 0 where
-  pub built-in : numberIn typeField rec ≡ 0 → d ≡ builtIn
-  pub recorded : (numberIn typeField rec ≡ 2) ⊎ ((numberIn typeField rec ≡ 3) ⊎ (numberIn typeField rec ≡ 5)) → d ≡ fieldOf requiredField rec
+  pub built-in : typeOf rec ≡ 0 → d ≡ builtIn
+  pub recorded : (typeOf rec ≡ 2) ⊎ ((typeOf rec ≡ 3) ⊎ (typeOf rec ≡ 5)) → d ≡ fieldOf requiredField rec
 
 -- mask bit 0: chained if it is 1, direct if it is 0
 abbrev pub chained : List ℕ → Bool

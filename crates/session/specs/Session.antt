@@ -8,14 +8,15 @@ use mathlib.Core.List.{List, [], _∷_, _++_}
 use lib.Dec.{eqb, ltb}
 use lib.ListN.{length, take}
 use Rattle.endian.specs.Lists.{Words}
-use Rattle.record.specs.Record.{typeField, numberIn}
 use Rattle.head.specs.Answers.{Report, refused, continues, whole, stopped, started, reportsWhole, Gathering, Result, Outcome}
 use Rattle.head.specs.Begin.{Flash, beginning}
 use Rattle.head.specs.Gather.{gathered}
 use Rattle.head.specs.Act.{acted}
 use Rattle.head.specs.declared.State.{State}
+use Rattle.session.specs.Reading.{typeOf}
 
--- what begin gets: the record, the UDI, what there is of flash, RAM and UDS. That a word of the UDS has 32 bits is its type in the code
+-- what begin gets: the record, the UDI, two slots with their sizes and the built-in digest, RAM and UDS. That a word of the UDS has 32 bits is its
+-- type in the code
 pub record Reset : Type 0 where
   pub rec : List ℕ
   pub udi : List ℕ
@@ -27,13 +28,12 @@ pub record Reset : Type 0 where
 abbrev pub begun : Reset → Result
 begun R = beginning (R .rec) (R .udi) (R .flash) (R .ram) (R .uds)
 
--- the type of the record
-abbrev pub typeOf : Reset → ℕ
-typeOf R = numberIn typeField (R .rec)
+-- it asks for a program from flash, or for a client program
+abbrev pub AsksFlash : Reset → Type 0
+AsksFlash R = typeOf (R .rec) ≤ 3
 
--- it asks for a client program
 abbrev pub AsksClient : Reset → Type 0
-AsksClient R = (typeOf R ≡ 4) ⊎ (typeOf R ≡ 5)
+AsksClient R = (typeOf (R .rec) ≡ 4) ⊎ (typeOf (R .rec) ≡ 5)
 
 -- none of begin's refusals applies: 5, 6 and 7
 pub record Admitted (R : Reset) : Type 0 where

@@ -1,6 +1,6 @@
 // A head on a pseudo-terminal: the proved loader (crate `loader`) behind standard input and output. ./simulate opens the terminal.
 // On descriptor 4 come the record, the UDS, the UDI, the built-in digest, the RAM's length, as 1 or 0 whether descriptor 2 is a terminal, and
-// the two slots of flash. What is shown (crate `display`) goes to descriptor 2 and the exit status, which a Rattle program has not, to
+// the two slots of flash, each behind its length. What is shown (crate `display`) goes to descriptor 2 and the exit status, which a Rattle program has not, to
 // descriptor 3.
 // What no contract can say is left to this file: that it hands over the bytes that it reads, in order, and writes each reply and text.
 ghost use mathlib.Core.Path.{_≡_};

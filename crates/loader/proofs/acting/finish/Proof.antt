@@ -37,8 +37,8 @@ returns c =
     let y = x .before .before .before .before in
     let m = measuring y in
     let a = call m .args in
-    finished-as (a .s) (m .measure .result) (a .room .now) (a .ram .now) (a .uds .now) (c .replied .result) (x .decide .result) _ _ (m .measure .ensures)
-    (sent-digest y) (c .replied .ensures) (x .decide .ensures)
+    finished-as (a .s) (m .measure .result) (a .room .now) (a .ram .now) (a .uds .now) (c .replied .result) (x .start-or-stop .result) _ _ (m .measure .ensures)
+    (sent-digest y) (c .replied .ensures) (x .start-or-stop .ensures)
 
 pub finish-spec : {M : Type 1} → statement M
 finish-spec =

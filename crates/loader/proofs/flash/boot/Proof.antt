@@ -55,8 +55,8 @@ returns-2 c =
     let f = e .before .before in
     let a = call f .args in
     booted _ (a .size) (a .c) (a .ram .now) (a .uds .now) _ (e .before .fits2 .result) (f .front .ensures) (e .before .fits2 .ensures)
-    (not-false (e .before .fits2 .result) (e .if1 .left)) (m .measure .result) (p .of-size .result) (x .decide .result) _ _ (m .measure .ensures)
-    (y .copy-to .ensures) (p .of-size .ensures) (x .decide .ensures)
+    (not-false (e .before .fits2 .result) (e .if1 .left)) (m .measure .result) (p .of-size .result) (x .start-or-stop .result) _ _ (m .measure .ensures)
+    (y .copy-to .ensures) (p .of-size .ensures) (x .start-or-stop .ensures)
 
 pub boot-spec : {M : Type 1} → statement M
 boot-spec =

@@ -7,7 +7,8 @@ use Rattle.head.specs.Answers.{reportOf, Result, resultOf, replied}
 use Rattle.head.specs.Begin.{beginning}
 use Rattle.head.specs.declared.Begun.{Begun}
 use Rattle.printer.specs.Output.{wordsIn, noFlash, afterBegin}
-use Rattle.printer.specs.Turns.{turnOf, silent, beginTurn, openedRam}
+use Rattle.printer.specs.Turns.{turnOf, silent, beginTurn}
+use Rattle.printer.proofs.NoFlash.{ram-stays}
 use borrow.Author.Needs.{needs}
 use Rattle.printer.proofs.turns.begin.Statement.{statement}
 use Rattle.printer.proofs.turns.begin.Tie as tie
@@ -15,11 +16,11 @@ use Rattle.printer.proofs.turns.begin.Tie as tie
 begun : (front ram words : List ℕ) (b : Begun) (ram' words' : List ℕ) → words ≡ wordsIn front
     → resultOf b ram' words' ≡ beginning (take 256 front) (drop 288 front) noFlash ram words
     → (silent (record { state = b .state; words = words'; received = 0 }) (reportOf (b .answer)) (b .cdi) ≡ beginTurn front ram)
-    × (ram' ≡ openedRam front ram)
+    × (ram' ≡ ram)
 unfolding afterBegin
 begun front ram words b ram' words' e f =
     let g = f ∙ ap (λ (w : List ℕ). beginning (take 256 front) (drop 288 front) noFlash ram w) e in
-    (ap (λ (x : Result). turnOf 0 (replied 0 [] x)) g, ap (λ (x : Result). x .ram) g)
+    (ap (λ (x : Result). turnOf 0 (replied 0 [] x)) g, ap (λ (x : Result). x .ram) g ∙ ram-stays (take 256 front) (drop 288 front) ram (wordsIn front))
 
 returns : tie.Need-returns
 returns c =

@@ -1,9 +1,8 @@
 -- What is allowed starts, and the other way ends.
-use mathlib.Core.Path.{_≡_, sym, _∙_}
 use Rattle.head.specs.Start.{decided}
 use borrow.Author.Needs.{needs}
-use Rattle.loader.proofs.starting.decide.Statement.{statement}
-use Rattle.loader.proofs.starting.decide.Tie as tie
+use Rattle.loader.proofs.starting.start_or_stop.Statement.{statement}
+use Rattle.loader.proofs.starting.start_or_stop.Tie as tie
 
 returns : tie.Need-returns
 unfolding decided
@@ -20,8 +19,8 @@ returns-2 c =
     let a = t .before .allowed in
     λ ram. rw (← (a .ensures), t .if1 .left) (c .end .ensures ram _)
 
-pub decide-spec : {M : Type 1} → statement M
-decide-spec =
+pub start-or-stop-spec : {M : Type 1} → statement M
+start-or-stop-spec =
     tie.close
     (tie.spec
     (λ c κs. search needs)
