@@ -1,7 +1,8 @@
 -- The list of specs/KnownAnswers.antt: the definitions compute to what document 01 says.
 use Prim.Native.Nat.{ℕ, _+_}
+use mathlib.Core.Bool.{true}
 use mathlib.Core.Path.{_≡_, refl, ap}
-use mathlib.Core.List.{List, _∷_, _++_}
+use mathlib.Core.List.{List, [], _∷_, _++_}
 use lib.ListN.{length, take, replicate}
 use lib.Seq.{take-append-add}
 use Rattle.framing.specs.Header.{headerAt, headerByte}
@@ -12,12 +13,16 @@ use Rattle.protocol.specs.Replies.{putIn, replyHeader, sent, nameReply, udiRepl
 use Rattle.record.specs.Record.{recordAt}
 use Rattle.cdi.specs.Cdi.{cdiString, cdiOf}
 use Rattle.cdi.proofs.Proved.{cdi}
-use Rattle.head.specs.State.{inRange, ended}
+use Rattle.rfc7693.proofs.Proved.{examples}
+use Rattle.head.specs.State.{inRange, ofSize, ended}
+use Rattle.head.specs.Answers.{Report, Result}
 use Rattle.head.specs.Start.{starting, decided}
-use Rattle.head.specs.Begin.{fromFlash, beginning}
+use Rattle.head.specs.Begin.{Slot, programIn, fits, fromFlash, beginning}
 use Rattle.head.specs.Gather.{byteStep, gatherRefusal, gathered}
 use Rattle.head.specs.Act.{actRefusal, acted}
-use Rattle.head.specs.KnownAnswers.{Begins, KnownAnswers}
+use Rattle.head.specs.KnownAnswers.{digestOfAbc, digestOfZero, flashed, BeginTypes, Begins, KnownAnswers}
+use Rattle.head.specs.declared.Phase.the-variants as phase
+use Rattle.head.specs.declared.Config.{Config}
 
 -- the first n + k bytes of p, which has n, and of what follows
 front : (p z : List ℕ) (n k : ℕ) → length p ≡ n → take (n + k) (p ++ z) ≡ p ++ take k z
@@ -31,15 +36,58 @@ digest-bytes : (d : List ℕ) → length d ≡ 32 → sent (digestReply 0x73 d) 
 unfolding digestReply replyHeader headerByte
 digest-bytes d l = rw l (ap (λ (x : List ℕ). 0x73 ∷ 0x07 ∷ 0 ∷ x) (front d (replicate 94 0) 32 94 l))
 
--- computed from the slots, the digests and CDIs among them
+-- ---- begins: the first computes all, and the others take a digest from an equation
+
+abbrev lentRam : List ℕ
+lentRam = 9 ∷ 9 ∷ 9 ∷ 9 ∷ []
+
+abbrev lentUds : List ℕ
+lentUds = 1 ∷ 2 ∷ 3 ∷ 4 ∷ 5 ∷ 6 ∷ 7 ∷ 8 ∷ []
+
+abbrev abc : Slot
+abc = flashed 3 1 [] .slot0
+
+abbrev zero : Slot
+zero = flashed 3 1 [] .slot1
+
+-- a program that fits has the digest d
+by-digest : (s : Slot) (c : Config) (d : List ℕ) → fits (s .size) (length (s .bytes)) 4 ≡ true → blake2s [] (programIn s) 32 ≡ d
+    → fromFlash s c lentRam lentUds ≡ decided c (ofSize phase.Loading (s .size)) d (putIn lentRam (programIn s)) lentUds
+unfolding fromFlash
+by-digest s c d f e = rw (f, e)
+
+of-abc : (c : Config) → fromFlash abc c lentRam lentUds ≡ decided c (ofSize phase.Loading 3) digestOfAbc (putIn lentRam (programIn abc)) lentUds
+of-abc c = by-digest abc c digestOfAbc refl (examples .abc)
+
+of-zero : (c : Config) → fromFlash zero c lentRam lentUds ≡ decided c (ofSize phase.Loading 1) digestOfZero (putIn lentRam (programIn zero)) lentUds
+unfolding word rotr words firstBytes iv sigma added xorRotated G workVector round rounds F input blockAt blockCount leading compressions compressed initial blake2s
+of-zero c = by-digest zero c digestOfZero refl refl
+
+report-of : Result → Report
+report-of x = x .report
+
+begin-types : BeginTypes
+unfolding beginning decided starting ended putIn recordAt word report-of
+begin-types = record {
+  flash-0 = ap report-of (of-abc _);
+  flash-1 = ap report-of (of-zero _);
+  flash-0-ver = ap report-of (of-abc _);
+  flash-1-ver = ap report-of (of-zero _);
+  differs = ap report-of (of-zero _);
+  stop = of-abc _;
+  client = refl;
+  client-ver = refl;
+  unknown = refl;
+}
+
 begins : Begins
 unfolding beginning fromFlash decided starting ended putIn recordAt word cdiString cdiOf rotr words firstBytes iv sigma added xorRotated G workVector round rounds F input blockAt blockCount leading compressions compressed initial blake2s
 begins = record {
   start = refl;
   chained = refl;
-  types = (refl, refl, refl, refl, refl, refl, refl, refl);
-  stop = refl;
+  types = begin-types;
   sizes = (refl, refl, refl, refl, refl);
+  unfit = refl;
   refusals = (refl, refl, refl);
 }
 

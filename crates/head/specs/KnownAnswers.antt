@@ -16,7 +16,7 @@ use Rattle.cdi.specs.Theorems.{Strings}
 use Rattle.head.specs.State.{idle, ended}
 use Rattle.head.specs.Answers.{refused, continues, whole, stopped, started, Result}
 use Rattle.head.specs.Start.{ending}
-use Rattle.head.specs.Begin.{Flash, flashOf, beginning}
+use Rattle.head.specs.Begin.{Flash, flashOf, fits, beginning}
 use Rattle.head.specs.Gather.{gathered}
 use Rattle.head.specs.Act.{loaded, acted}
 use Rattle.head.specs.Theorems.{gatheredOn}
@@ -63,6 +63,23 @@ begunOn rec f = beginning (padded 256 rec) (zeros 8) f (9 ∷ 9 ∷ 9 ∷ 9 ∷ 
 abbrev pub typed : ℕ → List ℕ → List ℕ
 typed type required = type ∷ 0 ∷ 0 ∷ 0 ∷ 0 ∷ 0 ∷ 0 ∷ 0 ∷ required
 
+-- each type: its slot, and the digest that it requires
+pub record BeginTypes : Type 0 where
+  -- not the record's
+  pub flash-0 : begunOn (typed 0 digestOfAbc) (flashed 3 1 digestOfZero) .report ≡ stopped 25
+  -- none
+  pub flash-1 : begunOn (typed 1 digestOfAbc) (flashed 3 1 digestOfAbc) .report ≡ started 0x40000000 1
+  -- the record's, and not the built-in one
+  pub flash-0-ver : begunOn (typed 2 digestOfAbc) (flashed 3 1 digestOfZero) .report ≡ started 0x40000000 3
+  pub flash-1-ver : begunOn (typed 3 digestOfZero) (flashed 3 1 digestOfAbc) .report ≡ started 0x40000000 1
+  pub differs : begunOn (typed 3 digestOfAbc) (flashed 3 1 digestOfZero) .report ≡ stopped 25
+  -- after stop 25 the program stays in RAM, and the UDS as it was
+  pub stop : begunOn (typed 2 digestOfZero) (flashed 3 1 digestOfAbc) ≡ ending (stopped 25) 4 (97 ∷ 98 ∷ 99 ∷ 9 ∷ []) (1 ∷ 2 ∷ 3 ∷ 4 ∷ 5 ∷ 6 ∷ 7 ∷ 8 ∷ [])
+  -- the slots are not looked at
+  pub client : begunOn (typed 4 []) (flashed 0 0 []) .report ≡ continues
+  pub client-ver : begunOn (typed 5 []) (flashed 0 0 []) .report ≡ continues
+  pub unknown : begunOn (typed 6 []) (flashed 3 1 []) .report ≡ stopped 20
+
 pub record Begins : Type 0 where
   -- a start from slot 0, of the first three bytes there
   pub start : begunOn (typed 0 []) (flashed 3 1 digestOfAbc) ≡ record {
@@ -83,20 +100,12 @@ pub record Begins : Type 0 where
       0x79 ∷ 0x3c ∷ 0x23 ∷ 0xe3 ∷ 0xd6 ∷ 0x69 ∷ 0x9a ∷ 0xf8 ∷
       0xe3 ∷ 0x4a ∷ 0xe8 ∷ 0x69 ∷ 0x73 ∷ 0x40 ∷ 0xf1 ∷ 0x09 ∷
       0xa7 ∷ 0xe4 ∷ 0x07 ∷ 0x26 ∷ 0xfa ∷ 0x51 ∷ 0x78 ∷ 0x82 ∷ []
-  -- each type: its slot, and the digest that it requires; type 0 not the record's, types 2 and 3 not the built-in one, type 1 none
-  pub types : (begunOn (typed 0 digestOfAbc) (flashed 3 1 digestOfZero) .report ≡ stopped 25)
-      × (begunOn (typed 1 digestOfAbc) (flashed 3 1 digestOfAbc) .report ≡ started 0x40000000 1)
-      × (begunOn (typed 2 digestOfAbc) (flashed 3 1 digestOfZero) .report ≡ started 0x40000000 3)
-      × (begunOn (typed 3 digestOfZero) (flashed 3 1 digestOfAbc) .report ≡ started 0x40000000 1)
-      × (begunOn (typed 3 digestOfAbc) (flashed 3 1 digestOfZero) .report ≡ stopped 25)
-      × (begunOn (typed 4 []) (flashed 0 0 []) .report ≡ continues) × (begunOn (typed 5 []) (flashed 0 0 []) .report ≡ continues)
-      × (begunOn (typed 6 []) (flashed 3 1 []) .report ≡ stopped 20)
-  -- the program of a stop 25 stays in RAM, and the UDS as it was
-  pub stop : begunOn (typed 2 digestOfZero) (flashed 3 1 digestOfAbc) ≡ ending (stopped 25) 4 (97 ∷ 98 ∷ 99 ∷ 9 ∷ []) (1 ∷ 2 ∷ 3 ∷ 4 ∷ 5 ∷ 6 ∷ 7 ∷ 8 ∷ [])
-  -- sizes 0, of the slot and one more; as long as the RAM and one more, which is as long as the slot
-  pub sizes : (begunOn (typed 1 []) (flashed 3 0 []) .report ≡ stopped 26) × (begunOn (typed 1 []) (flashed 3 1 []) .report ≡ started 0x40000000 1)
-      × (begunOn (typed 1 []) (flashed 3 2 []) .report ≡ stopped 26) × (begunOn (typed 2 []) (flashed 4 1 []) .report ≡ stopped 25)
-      × (begunOn (typed 2 []) (flashed 5 1 []) ≡ ending (stopped 26) 4 (9 ∷ 9 ∷ 9 ∷ 9 ∷ []) (1 ∷ 2 ∷ 3 ∷ 4 ∷ 5 ∷ 6 ∷ 7 ∷ 8 ∷ []))
+  pub types : BeginTypes
+  -- sizes of 0, of the slot and one more, where the RAM is longer; of the RAM and one more, where the slot is
+  pub sizes : (fits 0 3 4 ≡ false) × (fits 3 3 4 ≡ true) × (fits 4 3 4 ≡ false) × (fits 4 5 4 ≡ true) × (fits 5 5 4 ≡ false)
+  -- a size over the RAM, as long as the slot: nothing is stored
+  pub unfit : begunOn (typed 2 digestOfAbc) (flashed 5 1 [])
+      ≡ ending (stopped 26) 4 (9 ∷ 9 ∷ 9 ∷ 9 ∷ []) (1 ∷ 2 ∷ 3 ∷ 4 ∷ 5 ∷ 6 ∷ 7 ∷ 8 ∷ [])
   -- refusals in their order, of record, RAM and UDS
   pub refusals : (beginning [] [] (flashed 0 0 []) [] [] .report ≡ refused 5) × (beginning [] [] (flashed 0 0 []) [] (zeros 8) .report ≡ refused 6)
       × (beginning (zeros 256) [] (flashed 0 0 []) [] (zeros 8) .report ≡ refused 7)
