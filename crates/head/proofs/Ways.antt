@@ -87,6 +87,11 @@ module _ (s : State) (b : ℕ) (P : Gathering → Type 0) where
         step-ways (byteStep (s .incoming) b) (step-ok (s .incoming) b (range-facts s (a .range) .incoming) (a .unfinished)) (a .goes))
         (λ z. w .refused k refl (eqb-false k 0 z))
 
+-- by cases on a test that does not look at the words
+by-either : {A : Type 0} (P : (List ℕ → A) → Type 0) (t : Bool) (x y : List ℕ → A) → (t ≡ true → P x) → (t ≡ false → P y) → P (λ u. cond t (x u) (y u))
+by-either P true x y f g = f refl
+by-either P false x y f g = g refl
+
 -- ---- begin
 
 -- a begin with the number of its refusal
@@ -112,17 +117,12 @@ module _ (bytes udi : List ℕ) (f : Flash) (ram : List ℕ) (n : ℕ) (P : (Lis
     pub fail : lengthOk (length ram) ≡ true → (x : Slot) → fits (x .size) (length (x .bytes)) (length ram) ≡ true
         → P (ending (stopped 25) (length ram) (putIn ram (programIn x)))
 
-  -- by cases on a test, whatever the words are
-  by-result : (t : Bool) (x y : List ℕ → Result) → (t ≡ true → P x) → (t ≡ false → P y) → P (λ u. cond t (x u) (y u))
-  by-result true x y f g = f refl
-  by-result false x y f g = g refl
-
   module _ (w : BeginWays) where
     slot-ways : lengthOk (length ram) ≡ true → (x : Slot) → P (fromFlash x config ram)
     unfolding fromFlash decided
     slot-ways l x =
-        by-result (fits (x .size) (length (x .bytes)) (length ram)) _ _
-        (λ h. by-result (allowed config (digestIn x)) _ _ (λ a. w .start l x h) (λ a. w .fail l x h)) (λ h. w .unfit l)
+        by-either P (fits (x .size) (length (x .bytes)) (length ram)) _ _
+        (λ h. by-either P (allowed config (digestIn x)) _ _ (λ a. w .start l x h) (λ a. w .fail l x h)) (λ h. w .unfit l)
 
     source-ways : lengthOk (length ram) ≡ true → (p : Source) → P (bySource p f config ram)
     source-ways l slot0 = slot-ways l (f .slot0)
@@ -133,7 +133,7 @@ module _ (bytes udi : List ℕ) (f : Flash) (ram : List ℕ) (n : ℕ) (P : (Lis
     pub by-secret : P (begunWith bytes udi f ram (beginRefusal (length bytes) (length ram) n))
     by-secret =
         let k = beginRefusal (length bytes) (length ram) n in
-        by-result (eqb k 0) _ _
+        by-either P (eqb k 0) _ _
         (λ z. source-ways (begin-admitted (length bytes) (length ram) n (eqb-true k 0 z) .2) (sourceOf (recordAt bytes .type)))
         (λ z. w .refused k refl (eqb-false k 0 z))
 
@@ -234,30 +234,22 @@ module _ (s : State) (room ram : List ℕ) (n : ℕ) (P : (List ℕ → Outcome)
     pub fail : (d ram1 : List ℕ) → Writes s ram1 ram
         → P (plain (stopped 25) 129 (ended phase.Stopped (s .config .«ram_len»)) (putIn room (sent (digestReply (s .incoming .header) d))) ram1)
 
-  -- by cases on a test, whatever the words are
-  by-either : (t : Bool) (x y : List ℕ → Outcome) → (t ≡ true → P x) → (t ≡ false → P y) → P (λ u. cond t (x u) (y u))
-  by-either true x y f g = f refl
-  by-either false x y f g = g refl
-
-  by-replied : {k : ℕ} {reply : List ℕ} (t : Bool) (x y : List ℕ → Result) → (t ≡ true → P (λ u. replied k reply (x u)))
-      → (t ≡ false → P (λ u. replied k reply (y u))) → P (λ u. replied k reply (cond t (x u) (y u)))
-  by-replied true x y f g = f refl
-  by-replied false x y f g = g refl
-
   module _ (w : ActWays) where
     abbrev h : ℕ
     h = s .incoming .header
 
     finish-ways : (d ram1 : List ℕ) → Writes s ram1 ram → P (finishedWith d s room ram1)
     unfolding finishedWith decided
-    finish-ways d ram1 z = by-replied (allowed (s .config) d) _ _ (λ a. w .start d ram1 z) (λ a. w .fail d ram1 z)
+    finish-ways d ram1 z =
+        let reply = putIn room (sent (digestReply h d)) in
+        by-either (λ (g : List ℕ → Result). P (λ u. replied 129 reply (g u))) (allowed (s .config) d) _ _ (λ a. w .start d ram1 z) (λ a. w .fail d ram1 z)
 
     block-ways : Writes s (storedIn ram (frameIn s) (s .progress .size) (s .progress .block)) ram
         → (isLast (s .progress .size) (s .progress .block) ≡ false → progressOk (nextBlock (s .progress)) (s .config .«ram_len») ≡ true)
         → P (actedBlock s room ram)
     unfolding actedBlock
     block-ways z next =
-        by-either (isLast (s .progress .size) (s .progress .block)) _ _
+        by-either P (isLast (s .progress .size) (s .progress .block)) _ _
         (λ l. finish-ways _ _ z)
         (λ l. w .progress (blockReply h) (protocol .lengths h [] [] true .3) (nextBlock (s .progress)) _ (next l) (λ v. v) z)
 
@@ -283,7 +275,7 @@ module _ (s : State) (room ram : List ℕ) (n : ℕ) (P : (List ℕ → Outcome)
     pub by-words : P (called (actRefusal s (length room) (length ram) n) s room ram)
     by-words =
         let k = actRefusal s (length room) (length ram) n in
-        by-either (eqb k 0) _ _
+        by-either P (eqb k 0) _ _
         (λ z.
         let a = act-admitted s (length room) (length ram) n (eqb-true k 0 z) in
         request-ways (a .ram-same) (range-facts s (a .range) .progress) _ _ _ refl)

@@ -14,7 +14,7 @@ use Rattle.protocol.specs.Commands.{lengthOk}
 use Rattle.record.specs.Record.{typeField, numberIn, knownType, recordAt}
 use Rattle.record.specs.Types.{Source, slot0, slot1, client, unknown, sourceOf}
 use Rattle.text.specs.Text.{ascii, decimalOf}
-use Rattle.head.specs.Answers.{stopped, Result, Outcome, replied}
+use Rattle.head.specs.Answers.{stopped, Result, replied}
 use Rattle.head.specs.Start.{ending}
 use Rattle.head.specs.Begin.{configOf, fromFlash, bySource, beginRefusal, beginning}
 use Rattle.head.specs.declared.Config.{Config}

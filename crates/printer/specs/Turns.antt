@@ -6,9 +6,9 @@ use mathlib.Core.List.{List, [], _∷_, _++_}
 use lib.Dec.{eqb, ltb}
 use lib.ListN.{length, take, drop}
 use Rattle.endian.specs.Lists.{zeros, padded}
-use Rattle.head.specs.Answers.{Report, Outcome}
+use Rattle.head.specs.Answers.{Outcome}
 use Rattle.text.specs.Text.{textOf}
-use Rattle.printer.specs.Lines.{waitingLine, errorLine, endLine}
+use Rattle.printer.specs.Lines.{waitingLine, errorLine}
 use Rattle.printer.specs.Output.{afterBegin, afterByte, callText, isOver, Output, behind}
 use Rattle.printer.specs.declared.turns.Session.{Session}
 use Rattle.printer.specs.declared.turns.Next.{Next}
@@ -23,10 +23,6 @@ turnOf n o =
       text = textOf (callText o);
       over = isOver (o .report);
     }
-
--- that of one without a reply
-abbrev pub silent : Session → Report → List ℕ → Turn
-silent s report cdi = record { session = s; text = textOf (endLine report cdi); over = isOver report }
 
 -- begin's turn, with all of the first 296 bytes
 abbrev pub beginTurn : List ℕ → List ℕ → Turn

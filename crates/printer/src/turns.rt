@@ -1,11 +1,12 @@
 // A session from byte to byte, and what is printed of it.
 ghost use mathlib.Core.Path.{_≡_};
+ghost use mathlib.Core.List.{[]};
 ghost use Rattle.endian.specs.Lists.{zeros};
-ghost use Rattle.head.specs.Answers.{reportOf};
+ghost use Rattle.head.specs.Answers.{reportOf, replied};
 ghost use Rattle.head.specs.Act.{acted};
 ghost use Rattle.text.specs.Text.{textOf};
 ghost use Rattle.printer.specs.Output.{replyText, isOver};
-ghost use Rattle.printer.specs.Turns.{turnOf, silent, beginTurn, opening, turned, ramAfter, waited};
+ghost use Rattle.printer.specs.Turns.{turnOf, beginTurn, opening, turned, ramAfter, waited};
 ghost use Rattle.printer.specs.declared.turns.Next.the-variants as next;
 use super::input;
 use super::lines;
@@ -72,7 +73,7 @@ fn begin(front: [u8; 296], ram: &mut [u8]) -> Turn
 
 // The turn of a call that has no reply.
 fn without_reply(session: Session, answer: Answer, cdi: [u8; 32]) -> Turn
-    ensures { λ r. ⌜ r ≡ silent session (reportOf answer) cdi ⌝ }
+    ensures { λ r. ⌜ r ≡ turnOf (session .received) (replied 0 [] (record { report = reportOf answer; state = session .state; cdi = cdi; digest = zeros 32; ram = []; uds = session .words })) ⌝ }
 {
     Turn {
         session,

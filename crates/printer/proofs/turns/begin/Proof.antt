@@ -3,11 +3,11 @@ use Prim.Native.Nat.{ℕ}
 use mathlib.Core.Path.{_≡_, ap, _∙_}
 use mathlib.Core.List.{List, []}
 use lib.ListN.{take, drop}
-use Rattle.head.specs.Answers.{reportOf, Result, resultOf, replied}
+use Rattle.head.specs.Answers.{Result, resultOf, replied}
 use Rattle.head.specs.Begin.{beginning}
 use Rattle.head.specs.declared.Begun.{Begun}
 use Rattle.printer.specs.Output.{wordsIn, noFlash, afterBegin}
-use Rattle.printer.specs.Turns.{turnOf, silent, beginTurn}
+use Rattle.printer.specs.Turns.{turnOf, beginTurn}
 use Rattle.printer.proofs.NoFlash.{ram-stays}
 use borrow.Author.Needs.{needs}
 use Rattle.printer.proofs.turns.begin.Statement.{statement}
@@ -15,7 +15,7 @@ use Rattle.printer.proofs.turns.begin.Tie as tie
 
 begun : (front ram words : List ℕ) (b : Begun) (ram' words' : List ℕ) → words ≡ wordsIn front
     → resultOf b ram' words' ≡ beginning (take 256 front) (drop 288 front) noFlash ram words
-    → (silent (record { state = b .state; words = words'; received = 0 }) (reportOf (b .answer)) (b .cdi) ≡ beginTurn front ram)
+    → (turnOf 0 (replied 0 [] (resultOf b ram' words')) ≡ beginTurn front ram)
     × (ram' ≡ ram)
 unfolding afterBegin
 begun front ram words b ram' words' e f =
