@@ -11,7 +11,7 @@ use lib.Dec.{eqb, ltb}
 use lib.ListN.{length, getD}
 use borrow.Author.Tests.{eq-eqb, eqb-true, eqb-false, lt-ltb, ltb-true, ltb-false}
 use Rattle.endian.proofs.Cases.{impossible}
-use Rattle.framing.specs.Header.{indexOf, lengthOf, codeOf, Reading, good, stop, Writing, byte, refused, headerAt, headerByte, bodyLen, inField, frameId, endpoint}
+use Rattle.framing.specs.Header.{indexOf, lengthOf, codeOf, Reading, good, stop, Writing, byte, refused, headerAt, headerByte, bodyLen, inField, clean, frameId, endpoint}
 use Rattle.framing.specs.Answers.{readingOf, writingOf}
 use Rattle.framing.specs.Theorems.{Headers, bit}
 use Rattle.framing.specs.declared.Header.{Header}
@@ -116,6 +116,15 @@ module _ (b : ℕ) where
       go true true p q = f (eqb-true (b / 128 % 2) 0 p) (eqb-true (b / 4 % 2) 0 q)
       go true false p q = g (inr (omega (arith, eqb-false (b / 4 % 2) 0 q)))
       go false y p q = g (inl (omega (arith, eqb-false (b / 128 % 2) 0 p)))
+
+-- and by the test of both
+pub good-at : (h : ℕ) → clean h ≡ true → headerAt h ≡ good (inField frameId h) (inField endpoint h) (bodyLen (headerAt h))
+unfolding headerAt
+good-at h e = rw e
+
+pub bad-at : (h : ℕ) → clean h ≡ false → headerAt h ≡ stop 22
+unfolding headerAt
+bad-at h e = rw e
 
 -- a body has at most 128 bytes
 length-small : (c : ℕ) → c < 4 → lengthOf c ≤ 128

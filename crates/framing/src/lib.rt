@@ -2,7 +2,7 @@
 // Document 01, "Header byte", in the terms of specs/Header.antt.
 ghost use mathlib.Core.Path.{_≡_};
 ghost use Prim.Native.Nat.{_<_};
-ghost use Rattle.framing.specs.Header.{frameId, inField, headerAt, headerByte, lengthOf, codeOf, bodyLen};
+ghost use Rattle.framing.specs.Header.{frameId, endpoint, inField, clean, headerAt, headerByte, lengthOf, codeOf, bodyLen};
 ghost use Rattle.framing.specs.Answers.{readingOf, writingOf};
 
 // What a header byte says.
@@ -53,19 +53,33 @@ pub fn frame_id(b: u8) -> u8
     b / 32 % 4
 }
 
+// The endpoint of the frame with this header.
+pub fn endpoint(b: u8) -> u8
+    ensures { λ r. ⌜ r ≡ inField endpoint b ⌝ }
+{
+    b / 8 % 4
+}
+
+// Whether a header is good: its bits 7 and 2 are zero.
+pub fn is_good(b: u8) -> bool
+    ensures { λ r. ⌜ r ≡ clean b ⌝ }
+{
+    if b / 128 % 2 != 0 {
+        return false;
+    }
+    b / 4 % 2 == 0
+}
+
 // Reads a header byte.
 pub fn read_header(b: u8) -> Header
     ensures { λ r. ⌜ readingOf r ≡ headerAt b ⌝ }
 {
-    if b / 128 % 2 != 0 {
-        return Header::Bad;
-    }
-    if b / 4 % 2 != 0 {
+    if !is_good(b) {
         return Header::Bad;
     }
     Header::Good {
         id: frame_id(b),
-        endpoint: b / 8 % 4,
+        endpoint: endpoint(b),
         len: body_length(b % 4),
     }
 }
@@ -74,14 +88,10 @@ pub fn read_header(b: u8) -> Header
 pub fn body_len(header: u8) -> u8
     ensures { λ r. ⌜ r ≡ bodyLen (headerAt header) ⌝ }
 {
-    match read_header(header) {
-        Header::Good {
-            id: _,
-            endpoint: _,
-            len,
-        } => len,
-        Header::Bad => 0,
+    if !is_good(header) {
+        return 0;
     }
+    body_length(header % 4)
 }
 
 // Makes a header byte, with bits 7 and 2 zero.

@@ -3,9 +3,9 @@
 -- config, what begin fixed: ram_len, verify, required, chained, measured_id, udi;
 -- progress, how far the load is: phase, size, block (the number of the next), uss_used, uss.
 use Prim.Native.Nat.{ℕ, _+_}
-use mathlib.Core.Bool.{Bool, true, false, not, cond, _&&_, _||_}
+use mathlib.Core.Bool.{Bool, true, false, cond, _&&_, _||_}
 use lib.Dec.{eqb, leb, ltb}
-use Rattle.endian.specs.Lists.{zeros, same}
+use Rattle.endian.specs.Lists.{zeros}
 use Rattle.framing.specs.Header.{Reading, good, stop, headerAt, bodyLen}
 use Rattle.protocol.specs.Commands.{firmware, lengthOk, blocksFor}
 use Rattle.head.specs.declared.Phase.{Phase}
@@ -23,19 +23,22 @@ abbrev pub isWhole : Incoming → Bool
 isWhole i = wholeBy (headerAt (i .header)) (i .got)
 
 -- between frames header and got are 0; in a frame the header is good, and got is at most its body's length, or one more where it is whole
+abbrev pub frameOk : ℕ → ℕ → Bool
+frameOk header got = cond (eqb got 0) (eqb header 0) (leb got (bodyLen (headerAt header)) || wholeBy (headerAt header) got)
+
 abbrev pub incomingOk : Incoming → Bool
-incomingOk i = cond (eqb (i .got) 0) (eqb (i .header) 0) (leb (i .got) (bodyLen (headerAt (i .header))) || isWhole i)
+incomingOk i = frameOk (i .header) (i .got)
 
--- while waiting nothing of a load is there
-abbrev pub waitingOk : Progress → Bool
-waitingOk p = eqb (p .size) 0 && (eqb (p .block) 0 && (not (p .«uss_used») && same (p .uss) (zeros 32)))
+-- while loading the size n is good for a RAM of m bytes, and block k is one of the program's
+abbrev pub loadOk : ℕ → ℕ → ℕ → Bool
+loadOk n k m = leb 1 n && (leb n m && ltb k (blocksFor n))
 
--- while loading the size is good for a RAM of m bytes, and the block is one of the program's
 abbrev pub loadingOk : Progress → ℕ → Bool
-loadingOk p m = leb 1 (p .size) && (leb (p .size) m && ltb (p .block) (blocksFor (p .size)))
+loadingOk p m = loadOk (p .size) (p .block) m
 
+-- while waiting nothing of a load is read, so any of it is in range
 abbrev pub progressIn : Phase → Progress → ℕ → Bool
-progressIn Waiting p m = waitingOk p
+progressIn Waiting p m = true
 progressIn Loading p m = loadingOk p m
 progressIn Started p m = true
 progressIn Stopped p m = true

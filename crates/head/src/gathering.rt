@@ -27,7 +27,7 @@ fn go_on(s: State, incoming: Incoming) -> Gathered
         config,
         progress,
     };
-    if states::is_whole(incoming) {
+    if states::is_whole(incoming.header, incoming.got) {
         return Gathered {
             answer: Answer::Whole,
             state,

@@ -16,8 +16,10 @@ pub use gathering::gather;
 pub use states::allowed;
 pub use states::ended;
 pub use states::fits;
+pub use states::frame_ok;
 pub use states::idle;
 pub use states::is_whole;
+pub use states::load_ok;
 pub use states::of_size;
 
 // Where a session stands.
@@ -217,7 +219,7 @@ pub fn admit_gather(s: State) -> Admission
     if !states::is_live(s.progress) {
         return Admission::Refused(Refusal::Ended);
     }
-    if states::is_whole(s.incoming) {
+    if states::is_whole(s.incoming.header, s.incoming.got) {
         return Admission::Refused(Refusal::OutOfTurn);
     }
     Admission::Admitted
@@ -234,7 +236,7 @@ pub fn admit_act(s: State, room: usize, ram: usize, uds: usize) -> Admission
     if !states::is_live(s.progress) {
         return Admission::Refused(Refusal::Ended);
     }
-    if !states::is_whole(s.incoming) {
+    if !states::is_whole(s.incoming.header, s.incoming.got) {
         return Admission::Refused(Refusal::OutOfTurn);
     }
     if room < 129 {

@@ -1,69 +1,53 @@
 // The state: the range of each field (docs/STATES.md), and what it is after a start or a stop; the tests of a program's digest and size.
 ghost use mathlib.Core.Path.{_≡_};
+ghost use Rattle.framing.specs.Header.{headerAt};
 ghost use Rattle.head.specs.Start.{allowed};
 ghost use Rattle.head.specs.Begin.{fits};
-ghost use Rattle.head.specs.State.{isWhole, incomingOk, waitingOk, loadingOk, progressOk, inRange, live, idle, ofSize, ended};
+ghost use Rattle.head.specs.State.{wholeBy, frameOk, loadOk, progressOk, inRange, live, idle, ofSize, ended};
 use super::Config;
 use super::Incoming;
 use super::Phase;
 use super::Progress;
 use super::State;
-use framing::Header;
 
-// Whether a frame for the firmware is whole.
-pub fn is_whole(i: Incoming) -> bool
-    ensures { λ r. ⌜ r ≡ isWhole i ⌝ }
+// Whether a frame for the firmware is whole: its header, and how many of its bytes have come.
+pub fn is_whole(header: u8, got: u8) -> bool
+    ensures { λ r. ⌜ r ≡ wholeBy (headerAt header) got ⌝ }
 {
-    match framing::read_header(i.header) {
-        Header::Good {
-            id: _,
-            endpoint,
-            len,
-        } => endpoint == 2 && i.got as usize == len as usize + 1,
-        Header::Bad => false,
+    if !framing::is_good(header) {
+        return false;
     }
+    if framing::endpoint(header) != 2 {
+        return false;
+    }
+    got as usize == framing::body_len(header) as usize + 1
 }
 
-fn incoming_ok(i: Incoming) -> bool
-    ensures { λ r. ⌜ r ≡ incomingOk i ⌝ }
+// Whether the frame that is being gathered, or is whole, is in its range.
+pub fn frame_ok(header: u8, got: u8) -> bool
+    ensures { λ r. ⌜ r ≡ frameOk header got ⌝ }
 {
-    if i.got == 0 {
-        return i.header == 0;
+    if got == 0 {
+        return header == 0;
     }
-    if i.got <= framing::body_len(i.header) {
+    if got <= framing::body_len(header) {
         return true;
     }
-    is_whole(i)
+    is_whole(header, got)
 }
 
-fn waiting_ok(p: Progress) -> bool
-    ensures { λ r. ⌜ r ≡ waitingOk p ⌝ }
+// Whether the numbers of a load are in their range. The block is tested by its place, without a division.
+pub fn load_ok(size: u32, block: u32, ram_len: usize) -> bool
+    ensures { λ r. ⌜ r ≡ loadOk size block «ram_len» ⌝ }
 {
-    if p.size != 0 {
+    let n = size as usize;
+    if n == 0 {
         return false;
     }
-    if p.block != 0 {
+    if ram_len < n {
         return false;
     }
-    if p.uss_used {
-        return false;
-    }
-    let uss = p.uss;
-    let none = [0u8; 32];
-    endian::equal(&uss, &none)
-}
-
-fn loading_ok(p: Progress, ram_len: usize) -> bool
-    ensures { λ r. ⌜ r ≡ loadingOk p «ram_len» ⌝ }
-{
-    let size = p.size as usize;
-    if size == 0 {
-        return false;
-    }
-    if ram_len < size {
-        return false;
-    }
-    (p.block as usize) < protocol::blocks_for(p.size)
+    protocol::place_of(block) < n
 }
 
 fn progress_ok(p: Progress, ram_len: usize) -> bool
@@ -71,8 +55,8 @@ fn progress_ok(p: Progress, ram_len: usize) -> bool
 {
     let phase = p.phase;
     match phase {
-        Phase::Waiting => waiting_ok(p),
-        Phase::Loading => loading_ok(p, ram_len),
+        Phase::Waiting => true,
+        Phase::Loading => load_ok(p.size, p.block, ram_len),
         Phase::Started => true,
         Phase::Stopped => true,
     }
@@ -86,7 +70,7 @@ pub fn in_range(s: State) -> bool
     if !protocol::length_ok(ram_len) {
         return false;
     }
-    if !incoming_ok(s.incoming) {
+    if !frame_ok(s.incoming.header, s.incoming.got) {
         return false;
     }
     progress_ok(s.progress, ram_len)

@@ -107,11 +107,19 @@ pub fn count_in(size: u32, block: u32) -> usize
     127
 }
 
-// Whether a block is a program's last one.
+// Whether a block is a program's last one: without a division, which a head's processor need not have.
 pub fn is_last(size: u32, block: u32) -> bool
     ensures { λ r. ⌜ r ≡ isLast size block ⌝ }
 {
-    blocks_for(size) == block as usize + 1
+    let from = place_of(block);
+    let size = size as usize;
+    if size <= from {
+        return false;
+    }
+    if from + 127 < size {
+        return false;
+    }
+    true
 }
 
 // The header of the reply to a command with this header.

@@ -1,8 +1,8 @@
--- Each return rewrites the definition with the tests that led to it.
+-- Bits 7 and 2 decide; the fields are the definition's.
 use Prim.Native.Nat.{_/_}
-use mathlib.Core.Path.{_≡_}
+use mathlib.Core.Path.{_≡_, sym, _∙_}
 use native.Mathlib.Omega.{arith}
-use borrow.Author.Tests.{eq-eqb, ne-eqb}
+use borrow.Author.Tests.{not-true, not-false}
 use borrow.Author.Needs.{needs}
 use Rattle.framing.specs.Header.{headerAt}
 use Rattle.framing.proofs.read_header.Statement.{statement}
@@ -10,31 +10,31 @@ use Rattle.framing.proofs.read_header.Tie as tie
 
 returns : tie.Need-returns
 unfolding headerAt
-returns c = simp (ne-eqb _ _ (c .if1 .taken))
+returns c = let g = c .before .is-good in rw (← (g .ensures), not-true (g .result) (c .if1 .taken))
 
 returns-2 : tie.Need-returns-2
 unfolding headerAt
-returns-2 c = simp (eq-eqb _ _ (c .before .if1 .left), ne-eqb _ _ (c .if2 .taken))
-
-returns-3 : tie.Need-returns-3
-unfolding headerAt
-returns-3 c =
-    let clean = c .before .before in
-    let b = clean .before .before .args .b in
+returns-2 c =
+    let w = c .before .before .before in
+    let g = w .before .is-good in
+    let b = w .before .before .args .b in
     let low : b / 1 ≡ b = omega arith in
-    simp (
-      eq-eqb _ _ (clean .before .if1 .left),
-      eq-eqb _ _ (clean .if2 .left),
-      c .before .frame-id .ensures,
+    rw (
+      ← (g .ensures),
+      not-false (g .result) (w .if1 .left),
+      c .before .before .frame-id .ensures,
+      c .before .endpoint .ensures,
       c .body-length .ensures,
       low,
     )
 
 pub read-header-spec : {M : Type 1} → statement M
-read-header-spec = tie.close
+read-header-spec =
+    tie.close
     (tie.spec
+    (λ c κs. search needs)
     returns
-    returns-2
     (λ c κs. search needs)
     (λ c κs. search needs)
-    returns-3)
+    (λ c κs. search needs)
+    returns-2)

@@ -12,14 +12,14 @@ returns c = let r = c .before .length-ok in simp (← (r .ensures), not-true (r 
 returns-2 : tie.Need-returns-2
 unfolding inRange
 returns-2 c =
-    let i = c .before .incoming-ok in
+    let i = c .before .frame-ok in
     let r = c .before .before .before .length-ok in
     simp (← (i .ensures), not-true (i .result) (c .if2 .taken), ← (r .ensures), not-false (r .result) (c .before .before .if1 .left))
 
 returns-3 : tie.Need-returns-3
 unfolding inRange
 returns-3 c =
-    let i = c .before .before .incoming-ok in
+    let i = c .before .before .frame-ok in
     let r = c .before .before .before .before .length-ok in
     simp (c .progress-ok .ensures, ← (i .ensures), not-false (i .result) (c .before .if2 .left), ← (r .ensures), not-false (r .result) (c .before .before .before .if1 .left))
 

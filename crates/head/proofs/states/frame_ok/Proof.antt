@@ -1,21 +1,21 @@
 -- The tests are those of the definition.
 use borrow.Author.Tests.{eq-eqb, ne-eqb, le-leb, lt-leb}
 use borrow.Author.Needs.{needs}
-use Rattle.head.proofs.states.incoming_ok.Statement.{statement}
-use Rattle.head.proofs.states.incoming_ok.Tie as tie
+use Rattle.head.proofs.states.frame_ok.Statement.{statement}
+use Rattle.head.proofs.states.frame_ok.Tie as tie
 
 returns : tie.Need-returns
-returns c = simp (eq-eqb _ _ (c .before .if1 .taken))
+returns c = simp (eq-eqb _ _ (c .if1 .taken))
 
 returns-2 : tie.Need-returns-2
 returns-2 c =
-    let b = c .before .before in
+    let b = c .before in
     simp (← (b .body-len .ensures), ne-eqb _ _ (b .before .if1 .left), le-leb _ _ (c .if2 .taken))
 
 returns-3 : tie.Need-returns-3
 returns-3 c =
-    let b = c .before .before .before in
+    let b = c .before .before in
     simp (c .is-whole .ensures, ← (b .body-len .ensures), ne-eqb _ _ (b .before .if1 .left), lt-leb _ _ (c .before .if2 .left))
 
-pub incoming-ok-spec : {M : Type 1} → statement M
-incoming-ok-spec = tie.close (tie.spec returns (λ c κs. search needs) returns-2 (λ c κs. search needs) returns-3)
+pub frame-ok-spec : {M : Type 1} → statement M
+frame-ok-spec = tie.close (tie.spec returns (λ c κs. search needs) returns-2 (λ c κs. search needs) returns-3)

@@ -1,0 +1,196 @@
+-- A state's memory holds that state, and memory that holds a state is that state's memory.
+use Prim.Native.Nat.{ℕ, zero, suc, _+_, _*_, _/_, _%_, _≤_, _<_}
+use mathlib.Core.Path.{_≡_, refl, sym, ap, _∙_}
+use mathlib.Core.List.{List, [], _∷_, _++_, append-assoc}
+use mathlib.Core.Bool.{Bool, true, false, cond, _&&_, and-eq-true-iff}
+use native.Mathlib.Omega.{arith}
+use lib.Dec.{eqb, leb}
+use lib.ListN.{length, getD, take, drop, length-append, length-drop}
+use lib.Seq.{getD-append-add, drop-append-add, take-at, take-all, take-add, drop-cons, length-take-le}
+use borrow.Author.Tests.{leb-true, le-leb, eqb-true, eqb-false}
+use Rattle.head.specs.declared.Phase.{Phase}
+use Rattle.head.specs.declared.Phase.the-variants.{Waiting, Loading, Started, Stopped}
+use Rattle.head.specs.declared.State.{State}
+use Rattle.abi.specs.Layout.{Memory, lent, phaseNumber, phaseOf, bit, flagsOf, flagIn, holds, stateIn, memoryOf}
+use Rattle.abi.specs.Theorems.{Sized, Lengths}
+
+-- ---- phases and flags
+
+phase-back : (p : Phase) → (phaseOf (phaseNumber p) ≡ p) × (phaseNumber p ≤ 3)
+phase-back Waiting = (refl, omega arith)
+phase-back Loading = (refl, omega arith)
+phase-back Started = (refl, omega arith)
+phase-back Stopped = (refl, omega arith)
+
+phase-forth : (k : ℕ) → k ≤ 3 → phaseNumber (phaseOf k) ≡ k
+phase-forth zero h = refl
+phase-forth (suc zero) h = refl
+phase-forth (suc (suc zero)) h = refl
+phase-forth (suc (suc (suc zero))) h = refl
+phase-forth (suc (suc (suc (suc k)))) h = absurd (omega arith)
+
+record Flags (v c u : Bool) : Type 0 where
+  verify : flagIn 1 (flagsOf v c u) ≡ v
+  chained : flagIn 2 (flagsOf v c u) ≡ c
+  used : flagIn 4 (flagsOf v c u) ≡ u
+  small : flagsOf v c u ≤ 7
+
+flags-back : (v c u : Bool) → Flags v c u
+flags-back false false false = record { verify = refl; chained = refl; used = refl; small = omega arith }
+flags-back false false true = record { verify = refl; chained = refl; used = refl; small = omega arith }
+flags-back false true false = record { verify = refl; chained = refl; used = refl; small = omega arith }
+flags-back false true true = record { verify = refl; chained = refl; used = refl; small = omega arith }
+flags-back true false false = record { verify = refl; chained = refl; used = refl; small = omega arith }
+flags-back true false true = record { verify = refl; chained = refl; used = refl; small = omega arith }
+flags-back true true false = record { verify = refl; chained = refl; used = refl; small = omega arith }
+flags-back true true true = record { verify = refl; chained = refl; used = refl; small = omega arith }
+
+flags-forth : (k : ℕ) → k ≤ 7 → flagsOf (flagIn 1 k) (flagIn 2 k) (flagIn 4 k) ≡ k
+flags-forth zero h = refl
+flags-forth (suc zero) h = refl
+flags-forth (suc (suc zero)) h = refl
+flags-forth (suc (suc (suc zero))) h = refl
+flags-forth (suc (suc (suc (suc zero)))) h = refl
+flags-forth (suc (suc (suc (suc (suc zero))))) h = refl
+flags-forth (suc (suc (suc (suc (suc (suc zero)))))) h = refl
+flags-forth (suc (suc (suc (suc (suc (suc (suc zero))))))) h = refl
+flags-forth (suc (suc (suc (suc (suc (suc (suc (suc k)))))))) h = absurd (omega arith)
+
+pub holds-facts : (b : List ℕ) → holds b ≡ true → (getD b 130 0 ≤ 3) × (getD b 131 0 ≤ 7)
+holds-facts b e =
+    let a = and-eq-true-iff (leb (getD b 130 0) 3) _ .0 e in
+    (leb-true (getD b 130 0) 3 (a .0), leb-true (getD b 131 0) 7 (a .1))
+
+-- ---- from the state
+
+past : (xs ys : List ℕ) (k : ℕ) → length xs ≡ k → (i : ℕ) → getD (xs ++ ys) (k + i) 0 ≡ getD ys i 0
+past xs ys k e i = rw (← e) (getD-append-add xs ys i 0)
+
+past-drop : (xs ys : List ℕ) (k : ℕ) → length xs ≡ k → (i : ℕ) → drop (k + i) (xs ++ ys) ≡ drop i ys
+past-drop xs ys k e i = rw (← e) (drop-append-add xs ys i)
+
+module _ (s : State) (z : Sized s) where
+  abbrev tail3 : List ℕ
+  tail3 = s .config .udi ++ s .progress .uss
+
+  abbrev tail2 : List ℕ
+  tail2 = s .config .«measured_id» ++ tail3
+
+  abbrev tail1 : List ℕ
+  tail1 = s .config .required ++ tail2
+
+  abbrev small : List ℕ
+  small =
+      s .incoming .header ∷ s .incoming .got ∷ phaseNumber (s .progress .phase) ∷ flagsOf (s .config .verify) (s .config .chained) (s .progress .«uss_used») ∷ tail1
+
+  abbrev all : List ℕ
+  all = s .incoming .body ++ small
+
+  in-parts : memoryOf s .bytes ≡ all
+  unfolding memoryOf
+  in-parts = simp append-assoc
+
+  one : (i : ℕ) → getD all (128 + i) 0 ≡ getD small i 0
+  one = past (s .incoming .body) small 128 (z .body)
+
+  part : (i : ℕ) → drop (128 + i) all ≡ drop i small
+  part = past-drop (s .incoming .body) small 128 (z .body)
+
+  required-back : take 32 (drop 132 all) ≡ s .config .required
+  required-back = ap (take 32) (part 4) ∙ take-at (s .config .required) tail2 32 (z .required)
+
+  measured-back : take 32 (drop 164 all) ≡ s .config .«measured_id»
+  measured-back =
+      ap (take 32) (part 36 ∙ past-drop (s .config .required) tail2 32 (z .required) 0) ∙ take-at (s .config .«measured_id») tail3 32 (z .measured)
+
+  udi-back : take 8 (drop 196 all) ≡ s .config .udi
+  udi-back =
+      ap (take 8)
+      (part 68 ∙ past-drop (s .config .required) tail2 32 (z .required) 32 ∙ past-drop (s .config .«measured_id») tail3 32 (z .measured) 0)
+      ∙ take-at (s .config .udi) (s .progress .uss) 8 (z .udi)
+
+  uss-back : take 32 (drop 204 all) ≡ s .progress .uss
+  uss-back =
+      ap (take 32)
+      (part 76
+      ∙ past-drop (s .config .required) tail2 32 (z .required) 40
+      ∙ past-drop (s .config .«measured_id») tail3 32 (z .measured) 8
+      ∙ past-drop (s .config .udi) (s .progress .uss) 8 (z .udi) 0)
+      ∙ take-all 32 (s .progress .uss) (let u = z .uss in omega arith)
+
+  held : holds all ≡ true
+  held =
+      let f = flags-back (s .config .verify) (s .config .chained) (s .progress .«uss_used») in
+      rw (one 2, one 3, le-leb _ _ (phase-back (s .progress .phase) .1), le-leb _ _ (f .small))
+
+  at-all : stateIn (lent (memoryOf s .numbers) all) ≡ s
+  unfolding stateIn memoryOf
+  at-all =
+      let f = flags-back (s .config .verify) (s .config .chained) (s .progress .«uss_used») in
+      let b : take 128 all ≡ s .incoming .body = take-at (s .incoming .body) small 128 (z .body) in
+      rw (one 0, one 1, one 2, one 3, b, required-back, measured-back, udi-back, uss-back, f .verify, f .chained, f .used, phase-back (s .progress .phase) .0)
+
+  pub back : (holds (memoryOf s .bytes) ≡ true) × (stateIn (memoryOf s) ≡ s)
+  back = (rw in-parts held, ap (λ (b : List ℕ). stateIn (lent (memoryOf s .numbers) b)) in-parts ∙ at-all)
+
+  pub lengths : Lengths (memoryOf s)
+  unfolding memoryOf
+  lengths =
+      let b = z .body in
+      let r = z .required in
+      let m = z .measured in
+      let u = z .udi in
+      let w = z .uss in
+      let l = length-append (s .incoming .body) small in
+      let l1 = length-append (s .config .required) tail2 in
+      let l2 = length-append (s .config .«measured_id») tail3 in
+      let l3 = length-append (s .config .udi) (s .progress .uss) in
+      let e : length (memoryOf s .bytes) ≡ 236 = ap length in-parts ∙ omega arith in
+      record { numbers = refl; bytes = e }
+
+-- ---- from the memory
+
+module _ (m : Memory) (l : Lengths m) where
+  abbrev b : List ℕ
+  b = m .bytes
+
+  long : (i k : ℕ) → i + k ≤ 236 → length (take k (drop i b)) ≡ k
+  long i k h = let n = l .bytes in length-take-le k (drop i b) (rw length-drop (omega arith))
+
+  pub sized : Sized (stateIn m)
+  unfolding stateIn
+  sized =
+      record {
+        body = length-take-le 128 b (let n = l .bytes in omega arith);
+        required = long 132 32 (omega arith);
+        measured = long 164 32 (omega arith);
+        udi = long 196 8 (omega arith);
+        uss = long 204 32 (omega arith);
+      }
+
+  four : take 4 (drop 128 b) ≡ getD b 128 0 ∷ getD b 129 0 ∷ getD b 130 0 ∷ getD b 131 0 ∷ []
+  four =
+      let n = l .bytes in
+      rw (drop-cons b 128 0 (omega arith), drop-cons b 129 0 (omega arith), drop-cons b 130 0 (omega arith), drop-cons b 131 0 (omega arith))
+
+  three : (n : List ℕ) → length n ≡ 3 → getD n 0 0 ∷ getD n 1 0 ∷ getD n 2 0 ∷ [] ≡ n
+  three [] e = absurd (omega arith)
+  three (x ∷ []) e = absurd (omega arith)
+  three (x ∷ y ∷ []) e = absurd (omega arith)
+  three (x ∷ y ∷ z ∷ []) e = refl
+  three (x ∷ y ∷ z ∷ w ∷ n) e = absurd (omega arith)
+
+  joined : take 128 b ++ (getD b 128 0 ∷ getD b 129 0 ∷ getD b 130 0 ∷ getD b 131 0 ∷ []) ++ take 32 (drop 132 b) ++ take 32 (drop 164 b) ++ take 8 (drop 196 b)
+      ++ take 32 (drop 204 b) ≡ b
+  joined =
+      let n = l .bytes in
+      rw (← four, ← (take-add 128 4 b), ← (take-add 132 32 b), ← (take-add 164 32 b), ← (take-add 196 8 b), ← (take-add 204 32 b)) (take-all 236 b (omega arith))
+
+  pub forth : holds b ≡ true → memoryOf (stateIn m) ≡ m
+  unfolding stateIn memoryOf
+  forth e =
+      let h = holds-facts b e in
+      made (three (m .numbers) (l .numbers)) (rw (phase-forth (getD b 130 0) (h .0), flags-forth (getD b 131 0) (h .1)) joined)
+    where
+      made : {n b' : List ℕ} → n ≡ m .numbers → b' ≡ m .bytes → lent n b' ≡ m
+      made p q = rw (p, q)

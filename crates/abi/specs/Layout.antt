@@ -1,0 +1,85 @@
+-- The state of a head as memory that C lends: which memory holds which state, and which holds none. include/mastfrap.h has the same table.
+--     numbers, of 32 bits   0 the RAM's length, 1 the program's size, 2 the block that is waited for
+--     bytes                 0 to 127 the body of the frame, 128 its header, 129 how many of its bytes have come, 130 the phase, 131 the flags,
+--                           132 to 163 the required digest, 164 to 195 measured_id, 196 to 203 the UDI, 204 to 235 the user secret
+use Prim.Native.Nat.{ℕ, _+_, _*_, _/_, _%_}
+use mathlib.Core.Bool.{Bool, cond, _&&_}
+use mathlib.Core.List.{List, [], _∷_, _++_}
+use lib.Dec.{eqb, leb}
+use lib.ListN.{getD, take, drop}
+use Rattle.head.specs.declared.Phase.{Phase}
+use Rattle.head.specs.declared.Phase.the-variants.{Waiting, Loading, Started, Stopped}
+use Rattle.head.specs.declared.State.{State}
+
+pub record Memory : Type 0 where
+  pub numbers : List ℕ
+  pub bytes : List ℕ
+
+abbrev pub lent : List ℕ → List ℕ → Memory
+lent n b = record { numbers = n; bytes = b }
+
+-- the number of each phase
+abbrev pub phaseNumber : Phase → ℕ
+phaseNumber Waiting = 0
+phaseNumber Loading = 1
+phaseNumber Started = 2
+phaseNumber Stopped = 3
+
+-- and back; a number over 3 is no phase
+abbrev pub phaseOf : ℕ → Phase
+phaseOf k = cond (eqb k 0) Waiting (cond (eqb k 1) Loading (cond (eqb k 2) Started Stopped))
+
+-- the flags as one number: 1 verify, 2 chained, 4 uss_used
+abbrev pub bit : Bool → ℕ
+bit t = cond t 1 0
+
+abbrev pub flagsOf : Bool → Bool → Bool → ℕ
+flagsOf verify chained used = bit verify + 2 * bit chained + 4 * bit used
+
+-- and back: the flag of weight w; a number over 7 is no flags
+abbrev pub flagIn : ℕ → ℕ → Bool
+flagIn w k = eqb (k / w % 2) 1
+
+-- memory with these bytes holds a state unless its phase or its flags are none
+abbrev pub holds : List ℕ → Bool
+holds b = leb (getD b 130 0) 3 && leb (getD b 131 0) 7
+
+-- the state that it holds
+unfoldable pub stateIn : Memory → State
+stateIn m =
+    let n = m .numbers in
+    let b = m .bytes in
+    record {
+      incoming = record { header = getD b 128 0; got = getD b 129 0; body = take 128 b };
+      config =
+          record {
+            «ram_len» = getD n 0 0;
+            verify = flagIn 1 (getD b 131 0);
+            required = take 32 (drop 132 b);
+            chained = flagIn 2 (getD b 131 0);
+            «measured_id» = take 32 (drop 164 b);
+            udi = take 8 (drop 196 b);
+          };
+      progress =
+          record {
+            phase = phaseOf (getD b 130 0);
+            size = getD n 1 0;
+            block = getD n 2 0;
+            «uss_used» = flagIn 4 (getD b 131 0);
+            uss = take 32 (drop 204 b);
+          };
+    }
+
+-- the memory of a state
+unfoldable pub memoryOf : State → Memory
+memoryOf s =
+    let i = s .incoming in
+    let c = s .config in
+    let p = s .progress in
+    record {
+      numbers = c .«ram_len» ∷ p .size ∷ p .block ∷ [];
+      bytes =
+          i .body
+          ++ (i .header ∷ i .got ∷ phaseNumber (p .phase) ∷ flagsOf (c .verify) (c .chained) (p .«uss_used») ∷ [])
+          ++ c .required ++ c .«measured_id» ++ c .udi ++ p .uss;
+    }

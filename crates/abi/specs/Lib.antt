@@ -1,0 +1,4 @@
+pub mod Layout
+pub mod Calls
+pub mod Theorems
+pub mod Steps
