@@ -4,3 +4,4 @@ pub mod Stores
 pub mod Ways
 pub mod Ranges
 pub mod Called
+pub mod Proved

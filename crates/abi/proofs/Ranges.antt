@@ -1,13 +1,13 @@
 -- The refusals, by the tests that the code makes.
-use Prim.Native.Nat.{ℕ, _<_, _≤_}
+use Prim.Native.Nat.{ℕ, _+_, _<_, _≤_}
 use mathlib.Core.Path.{_≡_, refl, sym, ap, _∙_}
 use mathlib.Core.Bool.{Bool, true, false, not, cond, _&&_}
 use mathlib.Core.List.{List}
 use native.Mathlib.Omega.{arith}
 use lib.Dec.{eqb, leb, ltb}
 use lib.ListN.{length, getD}
-use borrow.Author.Tests.{eqb-true, eqb-false, ne-eqb, lt-ltb, le-ltb}
-use Rattle.framing.specs.Header.{headerAt, bodyLen}
+use borrow.Author.Tests.{eqb-true, eqb-false, ne-eqb, lt-ltb, le-ltb, lt-leb}
+use Rattle.framing.specs.Header.{Reading, good, stop, headerAt, bodyLen}
 use Rattle.protocol.specs.Commands.{lengthOk}
 use Rattle.head.specs.State.{wholeBy, frameOk, loadOk, progressIn, inRange, live}
 use Rattle.head.specs.Gather.{gatherRefusal, gathered}
@@ -42,8 +42,23 @@ live-same k = go (eqb k 0) (eqb k 1) (eqb k 2) refl refl
     go false false true e f = sym (le-ltb k 2 (omega (arith, eqb-false k 0 e, eqb-false k 1 f)))
     go false false false e f = sym (le-ltb k 2 (omega (arith, eqb-false k 0 e, eqb-false k 1 f)))
 
+-- a frame in range is whole exactly when more has come than its body's length
+whole-past : (h g : ℕ) → frameOk h g ≡ true → bodyLen (headerAt h) < g → wholeBy (headerAt h) g ≡ true
+whole-past h g f l = rw (ne-eqb g 0 (λ e. omega arith), lt-leb g (bodyLen (headerAt h)) l) at f
+
+whole-not : (h g : ℕ) → g ≤ bodyLen (headerAt h) → wholeBy (headerAt h) g ≡ false
+whole-not h g l = go (headerAt h) l
+  where
+    go : (r : Reading) → g ≤ bodyLen r → wholeBy r g ≡ false
+    go (good id ep n) q = rw (ne-eqb g (n + 1) (λ e. omega arith)) (second (eqb ep 2))
+      where
+        second : (x : Bool) → x && false ≡ false
+        second true = refl
+        second false = refl
+    go (stop k) q = refl
+
 module _ (n b : List ℕ) where
-  abbrev pub tests : Bool
+  abbrev tests : Bool
   tests =
       lengthOk (getD n 0 0)
       && (frameOk (getD b 128 0) (getD b 129 0) && cond (eqb (getD b 130 0) 1) (loadOk (getD n 1 0) (getD n 2 0) (getD n 0 0)) true)
@@ -65,20 +80,43 @@ module _ (n b : List ℕ) where
   pub no-state : holds b ≡ false → 1 ≡ cond (holds b) (gatherRefusal (stateIn (lent n b))) 1
   no-state h = rw h
 
+  -- the tests in the code's order
+  abbrev pub numbersOk : Bool
+  numbersOk = lengthOk (getD n 0 0) && cond (eqb (getD b 130 0) 1) (loadOk (getD n 1 0) (getD n 2 0) (getD n 0 0)) true
+
   module _ (h : holds b ≡ true) where
-    pub out-of-range : tests ≡ false → 1 ≡ cond (holds b) (gatherRefusal (stateIn (lent n b))) 1
-    out-of-range t = rw h (sym (number ∙ rw t))
+    pub bad-numbers : numbersOk ≡ false → 1 ≡ cond (holds b) (gatherRefusal (stateIn (lent n b))) 1
+    bad-numbers t = rw h (sym (number ∙ rw (first (lengthOk (getD n 0 0)) (frameOk (getD b 128 0) (getD b 129 0)) _ t)))
+      where
+        first : (x y z : Bool) → x && z ≡ false → x && (y && z) ≡ false
+        first true true z e = e
+        first true false z e = refl
+        first false y z e = refl
 
-    pub has-ended : tests ≡ true → 2 ≤ getD b 130 0 → 2 ≡ cond (holds b) (gatherRefusal (stateIn (lent n b))) 1
-    has-ended t l = rw h (sym (number ∙ rw (t, le-ltb (getD b 130 0) 2 l)))
+    pub bad-frame : frameOk (getD b 128 0) (getD b 129 0) ≡ false → 1 ≡ cond (holds b) (gatherRefusal (stateIn (lent n b))) 1
+    bad-frame t = rw h (sym (number ∙ rw (t, second (lengthOk (getD n 0 0)))))
+      where
+        second : (x : Bool) → x && false ≡ false
+        second true = refl
+        second false = refl
 
-    pub is-whole : tests ≡ true → getD b 130 0 < 2 → wholeBy (headerAt (getD b 128 0)) (getD b 129 0) ≡ true
-        → 47 ≡ cond (holds b) (gatherRefusal (stateIn (lent n b))) 1
-    is-whole t l w = rw h (sym (number ∙ rw (t, lt-ltb (getD b 130 0) 2 l, w)))
+    module _ (t : numbersOk ≡ true) (f : frameOk (getD b 128 0) (getD b 129 0) ≡ true) where
+      both : tests ≡ true
+      both = go (lengthOk (getD n 0 0)) (frameOk (getD b 128 0) (getD b 129 0)) _ t f
+        where
+          go : (x y z : Bool) → x && z ≡ true → y ≡ true → x && (y && z) ≡ true
+          go true true z e p = e
+          go true false z e p = p
+          go false y z e p = e
 
-    pub admits : tests ≡ true → getD b 130 0 < 2 → wholeBy (headerAt (getD b 128 0)) (getD b 129 0) ≡ false
-        → 0 ≡ cond (holds b) (gatherRefusal (stateIn (lent n b))) 1
-    admits t l w = rw h (sym (number ∙ rw (t, lt-ltb (getD b 130 0) 2 l, w)))
+      pub has-ended : 2 ≤ getD b 130 0 → 2 ≡ cond (holds b) (gatherRefusal (stateIn (lent n b))) 1
+      has-ended l = rw h (sym (number ∙ rw (both, le-ltb (getD b 130 0) 2 l)))
+
+      pub is-whole : getD b 130 0 < 2 → bodyLen (headerAt (getD b 128 0)) < getD b 129 0 → 47 ≡ cond (holds b) (gatherRefusal (stateIn (lent n b))) 1
+      is-whole l p = rw h (sym (number ∙ rw (both, lt-ltb (getD b 130 0) 2 l, whole-past (getD b 128 0) (getD b 129 0) f p)))
+
+      pub admits : getD b 130 0 < 2 → getD b 129 0 ≤ bodyLen (headerAt (getD b 128 0)) → 0 ≡ cond (holds b) (gatherRefusal (stateIn (lent n b))) 1
+      admits l p = rw h (sym (number ∙ rw (both, lt-ltb (getD b 130 0) 2 l, whole-not (getD b 128 0) (getD b 129 0) p)))
 
   -- ---- a call, by the number of its refusal
 

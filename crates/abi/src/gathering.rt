@@ -14,14 +14,25 @@ ghost use Rattle.abi.specs.Layout.{lent, holds, stateIn};
 ghost use Rattle.abi.specs.Calls.{gatherTold};
 ghost use Rattle.abi.specs.Steps.{admitted};
 
-// Whether a state with these fields is in its range.
-fn in_range(ram_len: usize, size: u32, block: u32, phase: u8, header: u8, got: u8) -> bool
-    ensures { λ r. ⌜ r ≡ lengthOk «ram_len» && (frameOk header got && cond (eqb phase 1) (loadOk size block «ram_len») true) ⌝ }
+// Whether the frame is in its range; len is the length of its body. head::frame_ok would read that off the header again.
+fn frame_ok(header: u8, got: u8, len: u8) -> bool
+    requires { ⌜ len ≡ bodyLen (headerAt header) ⌝ }
+    ensures { λ r. ⌜ r ≡ frameOk header got ⌝ }
+{
+    if got == 0 {
+        return header == 0;
+    }
+    if got <= len {
+        return true;
+    }
+    head::is_whole(header, got)
+}
+
+// Whether what is not of the frame is in its range.
+fn numbers_ok(ram_len: usize, size: u32, block: u32, phase: u8) -> bool
+    ensures { λ r. ⌜ r ≡ lengthOk «ram_len» && cond (eqb phase 1) (loadOk size block «ram_len») true ⌝ }
 {
     if !protocol::length_ok(ram_len) {
-        return false;
-    }
-    if !head::frame_ok(header, got) {
         return false;
     }
     if phase != 1 {
@@ -30,31 +41,27 @@ fn in_range(ram_len: usize, size: u32, block: u32, phase: u8, header: u8, got: u
     head::load_ok(size, block, ram_len)
 }
 
-// Why gathering is refused, or 0.
-pub fn refusal(numbers: &[u32], bytes: &[u8]) -> u32
+// Why gathering is refused, or 0; len is the length of the frame's body. In range, a frame is whole exactly when more has come than that.
+pub fn refusal(numbers: &[u32], bytes: &[u8], len: u8) -> u32
     requires { ⌜ (length (now numbers) ≡ 3) × (length (now bytes) ≡ 236) ⌝ }
+    requires { ⌜ len ≡ bodyLen (headerAt (getD (now bytes) 128 0)) ⌝ }
     ensures { λ r. ⌜ r ≡ cond (holds (now (bytes .entry))) (gatherRefusal (stateIn (lent (now (numbers .entry)) (now (bytes .entry))))) 1 ⌝ }
 {
-    let header = bytes[128];
     let got = bytes[129];
     let phase = bytes[130];
     if !super::layout::holds(bytes) {
         return 1;
     }
-    if !in_range(
-        numbers[0] as usize,
-        numbers[1],
-        numbers[2],
-        phase,
-        header,
-        got,
-    ) {
+    if !numbers_ok(numbers[0] as usize, numbers[1], numbers[2], phase) {
+        return 1;
+    }
+    if !frame_ok(bytes[128], got, len) {
         return 1;
     }
     if 2 <= phase {
         return 2;
     }
-    if head::is_whole(header, got) {
+    if len < got {
         return 47;
     }
     0
@@ -100,17 +107,16 @@ pub fn open(numbers: &mut [u32; 3], bytes: &mut [u8; 236], byte: u8) -> u32
     stop(numbers, bytes)
 }
 
-// A byte of the body that a header announced: it is kept where the frame is for the firmware.
-pub fn take(bytes: &mut [u8; 236], byte: u8) -> u32
+// A byte of the body that a header announced, of length len: it is kept where the frame is for the firmware.
+pub fn take(bytes: &mut [u8; 236], len: u8, byte: u8) -> u32
     requires { ⌜ length (now bytes) ≡ 236 ⌝ }
     requires { ⌜ holds (now bytes) ≡ true ⌝ }
-    requires { ⌜ (1 ≤ getD (now bytes) 129 0) × (getD (now bytes) 129 0 ≤ bodyLen (headerAt (getD (now bytes) 128 0))) ⌝ }
+    requires { ⌜ len ≡ bodyLen (headerAt (getD (now bytes) 128 0)) ⌝ }
+    requires { ⌜ (1 ≤ getD (now bytes) 129 0) × (getD (now bytes) 129 0 ≤ len) ⌝ }
     ensures { λ r. ⌜ ((n : List ℕ) → length n ≡ 3 → gatherTold r (lent n (now (bytes .exit))) ≡ admitted (lent n (now (bytes .entry))) byte) ⌝ }
 {
-    let header = bytes[128];
     let got = bytes[129];
-    let len = framing::body_len(header);
-    if framing::endpoint(header) == 2 {
+    if framing::endpoint(bytes[128]) == 2 {
         let at = (got - 1) as usize;
         bytes[at] = byte;
         bytes[129] = got + 1;

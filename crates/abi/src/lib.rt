@@ -121,14 +121,15 @@ pub extern "C" fn mastfrap_begin<'a>(
 pub extern "C" fn mastfrap_gather(numbers: &mut [u32; 3], bytes: &mut [u8; 236], byte: u8) -> u32
     ensures { λ r. ⌜ gatherTold r (lent (now (numbers .exit)) (now (bytes .exit))) ≡ gatherCall (lent (now (numbers .entry)) (now (bytes .entry))) byte ⌝ }
 {
-    let refused = gathering::refusal(numbers, bytes);
+    let len = framing::body_len(bytes[128]);
+    let refused = gathering::refusal(numbers, bytes, len);
     if refused != 0 {
         return refused;
     }
     if bytes[129] == 0 {
         return gathering::open(numbers, bytes, byte);
     }
-    gathering::take(bytes, byte)
+    gathering::take(bytes, len, byte)
 }
 
 // act.

@@ -7,7 +7,11 @@ use Rattle.abi.proofs.mastfrap_gather.Statement.{statement}
 use Rattle.abi.proofs.mastfrap_gather.Tie as tie
 
 abbrev start : tie.After-refusal → tie.Start
-start y = y .before .before .before .before .before
+start y = y .before .before .before .before .before .before .before
+
+-- the length of the frame's body
+abbrev sized : tie.After-refusal → tie.After-body-len
+sized y = y .before .before .before .before .before
 
 three : (y : tie.After-refusal) → length (start y .args .numbers .now) ≡ 3
 three y = search needs
@@ -44,7 +48,7 @@ take-requires c κs =
     let a = start y .args in
     let h = held (a .numbers .now) (a .bytes .now) (y .refusal .result) (y .refusal .ensures) (w .if1 .left) in
     let f = in-frame (a .numbers .now) (a .bytes .now) (y .refusal .result) (y .refusal .ensures) (w .if1 .left) (t .if2 .left) in
-    (full y, (h, f))
+    (full y, (h, (sized y .body-len .ensures, (f .0, rw (sized y .body-len .ensures) (f .1)))))
 
 returns-3 : tie.Need-returns-3
 returns-3 c =
@@ -58,6 +62,8 @@ pub mastfrap-gather-spec : {M : Type 1} → statement M
 mastfrap-gather-spec =
     tie.close
     (tie.spec
+    (λ c. search needs)
+    (λ c κs. search needs)
     (λ c κs. search needs)
     returns
     (λ c. search needs)

@@ -9,10 +9,10 @@ use Rattle.abi.proofs.gathering.take.Statement.{statement}
 use Rattle.abi.proofs.gathering.take.Tie as tie
 
 got-small : (z : tie.Start) → getD (z .args .bytes .now) 129 0 ≤ 128
-got-small z = omega (arith, body-small (getD (z .args .bytes .now) 128 0), z .pre .1 .1 .1)
+got-small z = omega (arith, body-small (getD (z .args .bytes .now) 128 0), z .pre .1 .1 .0, z .pre .1 .1 .1 .1)
 
 abbrev start : tie.After-endpoint → tie.Start
-start e = e .before .before .before .before
+start e = e .before .before .before
 
 cast-at : tie.Need-cast-at
 cast-at c = let s = got-small (start (c .before)) in omega arith
@@ -28,10 +28,11 @@ returns c =
     let i = c .before in
     let y = i .before in
     let z = start y in
-    λ n l. wholes n (z .args .bytes .now) (z .args .byte) l (z .pre .0) (z .pre .1 .0) (z .pre .1 .1 .0) (z .pre .1 .1 .1) (y .endpoint .result)
-    (y .before .body-len .result)
+    λ n l. wholes n (z .args .bytes .now) (z .args .byte) l (z .pre .0) (z .pre .1 .0) (z .pre .1 .1 .1 .0) (rw (← (z .pre .1 .1 .0)) (z .pre .1 .1 .1 .1))
+    (y .endpoint .result)
+    (z .args .len)
     (y .endpoint .ensures)
-    (y .before .body-len .ensures)
+    (z .pre .1 .1 .0)
     (i .if1 .taken)
     (c .if2 .taken)
 
@@ -40,10 +41,11 @@ returns-2 c =
     let i = c .before in
     let y = i .before in
     let z = start y in
-    λ n l. keeps n (z .args .bytes .now) (z .args .byte) l (z .pre .0) (z .pre .1 .0) (z .pre .1 .1 .0) (z .pre .1 .1 .1) (y .endpoint .result)
-    (y .before .body-len .result)
+    λ n l. keeps n (z .args .bytes .now) (z .args .byte) l (z .pre .0) (z .pre .1 .0) (z .pre .1 .1 .1 .0) (rw (← (z .pre .1 .1 .0)) (z .pre .1 .1 .1 .1))
+    (y .endpoint .result)
+    (z .args .len)
     (y .endpoint .ensures)
-    (y .before .body-len .ensures)
+    (z .pre .1 .1 .0)
     (i .if1 .taken)
     (c .if2 .left)
 
@@ -53,10 +55,11 @@ returns-3 c =
     let i = t .before in
     let y = i .before in
     let z = start y in
-    λ n l. ends n (z .args .bytes .now) (z .args .byte) l (z .pre .0) (z .pre .1 .0) (z .pre .1 .1 .0) (z .pre .1 .1 .1) (y .endpoint .result)
-    (y .before .body-len .result)
+    λ n l. ends n (z .args .bytes .now) (z .args .byte) l (z .pre .0) (z .pre .1 .0) (z .pre .1 .1 .1 .0) (rw (← (z .pre .1 .1 .0)) (z .pre .1 .1 .1 .1))
+    (y .endpoint .result)
+    (z .args .len)
     (y .endpoint .ensures)
-    (y .before .body-len .ensures)
+    (z .pre .1 .1 .0)
     (c .clear-body .last .0)
     (c .clear-body .ensures)
     (i .if1 .left)
@@ -67,10 +70,11 @@ returns-4 c =
     let i = c .before in
     let y = i .before in
     let z = start y in
-    λ n l. passes n (z .args .bytes .now) (z .args .byte) l (z .pre .0) (z .pre .1 .0) (z .pre .1 .1 .0) (z .pre .1 .1 .1) (y .endpoint .result)
-    (y .before .body-len .result)
+    λ n l. passes n (z .args .bytes .now) (z .args .byte) l (z .pre .0) (z .pre .1 .0) (z .pre .1 .1 .1 .0) (rw (← (z .pre .1 .1 .0)) (z .pre .1 .1 .1 .1))
+    (y .endpoint .result)
+    (z .args .len)
     (y .endpoint .ensures)
-    (y .before .body-len .ensures)
+    (z .pre .1 .1 .0)
     (i .if1 .left)
     (c .if3 .left)
 
@@ -80,7 +84,6 @@ take-spec =
     (tie.spec
     (λ c. search needs)
     (λ c. search needs)
-    (λ c κs. search needs)
     (λ c κs. search needs)
     (λ c. search needs)
     cast-at

@@ -1,0 +1,204 @@
+-- The theorem of specs/Theorems.antt.
+use Prim.Native.Nat.{ℕ, _+_, _≤_}
+use mathlib.Core.Path.{_≡_, refl, sym, ap, _∙_}
+use mathlib.Core.Bool.{Bool, true, false, not, cond, _&&_}
+use mathlib.Core.List.{List, [], _∷_}
+use mathlib.Core.Logic.{_⊎_, inl, inr, ⊎-elim}
+use native.Mathlib.Omega.{arith}
+use lib.Dec.{eqb}
+use lib.ListN.{length, take, drop, length-set, length-drop}
+use lib.Seq.{length-take-le}
+use Rattle.endian.specs.Lists.{zeros}
+use Rattle.endian.proofs.Cases.{impossible}
+use Rattle.framing.specs.Header.{Reading, good, stop, headerAt}
+use Rattle.record.specs.Record.{recordAt}
+use Rattle.record.specs.Types.{isType}
+use Rattle.protocol.specs.Commands.{loadIn, isLast}
+use Rattle.head.specs.State.{ended}
+use Rattle.head.specs.Answers.{Report, refused, stopped, started, refusalNumber, stopNumber, reportOf, Gathering, Result, Outcome}
+use Rattle.head.specs.Start.{allowed, decided, starting}
+use Rattle.head.specs.Begin.{Flash, beginning}
+use Rattle.head.specs.Gather.{Step, opened, continued, byteStep, withIncoming, afterStep, gathered, gatherRefusal}
+use Rattle.head.specs.Act.{Request, asksName, asksUdi, givesLoad, givesBlock, halts, requestOf, between, takes, afterLoad, loadOf, actedBlock, finishedWith, performed, acted, actRefusal}
+use Rattle.head.specs.declared.Phase.{Phase}
+use Rattle.head.specs.declared.Answer.{Answer}
+use Rattle.head.specs.declared.Answer.the-variants.{Refused, Continue, Whole, Stopped, Started}
+use Rattle.head.specs.declared.Refusal.{Refusal}
+use Rattle.head.specs.declared.Refusal.the-variants.{StateRange, Ended, ReplyRoom, RamLength, SecretLength, RecordLength, RamSize, OutOfTurn}
+use Rattle.head.specs.declared.Stop.{Stop}
+use Rattle.head.specs.declared.Stop.the-variants.{UnknownType, HeaderBit, Command, BodyLength, Digest, ProgramSize}
+use Rattle.head.specs.declared.Config.{Config}
+use Rattle.head.specs.declared.Incoming.{Incoming}
+use Rattle.head.specs.declared.Progress.{Progress}
+use Rattle.head.specs.declared.State.{State}
+use Rattle.head.proofs.Ranges.{by-test}
+use Rattle.head.proofs.Ways.{by-begin}
+use Rattle.head.proofs.Proved.{head-theorems}
+use Rattle.abi.specs.Layout.{memoryOf, stateIn}
+use Rattle.abi.specs.Calls.{answerNumber, startOf, Start, afterGather, gatherCall, afterAct, actCall}
+use Rattle.abi.specs.Theorems.{Sized, AbiTheorems}
+use Rattle.abi.proofs.RoundTrip.{lengths, back, sized, forth}
+
+-- ---- the numbers
+
+refusal-range : (r : Refusal) → (1 ≤ refusalNumber r) × ((refusalNumber r ≤ 7) ⊎ (refusalNumber r ≡ 47))
+refusal-range StateRange = (omega arith, inl (omega arith))
+refusal-range Ended = (omega arith, inl (omega arith))
+refusal-range ReplyRoom = (omega arith, inl (omega arith))
+refusal-range RamLength = (omega arith, inl (omega arith))
+refusal-range SecretLength = (omega arith, inl (omega arith))
+refusal-range RecordLength = (omega arith, inl (omega arith))
+refusal-range RamSize = (omega arith, inl (omega arith))
+refusal-range OutOfTurn = (omega arith, inr refl)
+
+stop-range : (s : Stop) → (20 ≤ stopNumber s) × (stopNumber s ≤ 26)
+stop-range UnknownType = (omega arith, omega arith)
+stop-range HeaderBit = (omega arith, omega arith)
+stop-range Command = (omega arith, omega arith)
+stop-range BodyLength = (omega arith, omega arith)
+stop-range Digest = (omega arith, omega arith)
+stop-range ProgramSize = (omega arith, omega arith)
+
+-- a refusal has no other answer's number, and neither has a stop
+not-refused : {A : Type 0} (r : Refusal) (k : ℕ) → (k ≡ 0) ⊎ ((8 ≤ k) × (k ≡ 47 → ⊥)) → refusalNumber r ≡ k → A
+not-refused r k h e =
+    let b = refusal-range r in
+    absurd (⊎-elim (λ z. omega (arith, b .0)) (λ z. ⊎-elim (λ s. omega arith) (λ s. z .1 (sym e ∙ s)) (b .1)) h)
+
+not-stopped : {A : Type 0} (s : Stop) (k : ℕ) → (k ≡ 0) ⊎ (27 ≤ k) → stopNumber s ≡ k → A
+not-stopped s k h e = let b = stop-range s in absurd (⊎-elim (λ z. omega (arith, b .0)) (λ z. omega (arith, b .1)) h)
+
+report : (x y : Answer) → answerNumber (reportOf x) ≡ answerNumber (reportOf y) → startOf (reportOf x) ≡ startOf (reportOf y) → reportOf x ≡ reportOf y
+report (Refused r) (Refused q) e f = ap refused e
+report (Refused r) Continue e f = not-refused r 0 (inl refl) e
+report (Refused r) Whole e f = not-refused r 64 (inr (omega arith, λ z. omega arith)) e
+report (Refused r) (Stopped s) e f = let b = stop-range s in not-refused r (stopNumber s) (inr (omega arith, λ z. omega arith)) e
+report (Refused r) (Started a n) e f = not-refused r 65 (inr (omega arith, λ z. omega arith)) e
+report Continue (Refused r) e f = not-refused r 0 (inl refl) (sym e)
+report Continue Continue e f = refl
+report Continue Whole e f = absurd (omega arith)
+report Continue (Stopped s) e f = not-stopped s 0 (inl refl) (sym e)
+report Continue (Started a n) e f = absurd (omega arith)
+report Whole (Refused r) e f = not-refused r 64 (inr (omega arith, λ z. omega arith)) (sym e)
+report Whole Continue e f = absurd (omega arith)
+report Whole Whole e f = refl
+report Whole (Stopped s) e f = not-stopped s 64 (inr (omega arith)) (sym e)
+report Whole (Started a n) e f = absurd (omega arith)
+report (Stopped s) (Refused r) e f = let b = stop-range s in not-refused r (stopNumber s) (inr (omega arith, λ z. omega arith)) (sym e)
+report (Stopped s) Continue e f = not-stopped s 0 (inl refl) e
+report (Stopped s) Whole e f = not-stopped s 64 (inr (omega arith)) e
+report (Stopped s) (Stopped t) e f = ap stopped e
+report (Stopped s) (Started a n) e f = not-stopped s 65 (inr (omega arith)) e
+report (Started a n) (Refused r) e f = not-refused r 65 (inr (omega arith, λ z. omega arith)) (sym e)
+report (Started a n) Continue e f = absurd (omega arith)
+report (Started a n) Whole e f = absurd (omega arith)
+report (Started a n) (Stopped s) e f = not-stopped s 65 (inr (omega arith)) (sym e)
+report (Started a n) (Started b m) e f = cc
+
+-- ---- the arrays keep their lengths
+
+ended-sized : (p : Phase) (m : ℕ) → Sized (ended p m)
+unfolding ended
+ended-sized p m = record { body = refl; required = refl; measured = refl; udi = refl; uss = refl }
+
+module _ (s : State) (z : Sized s) where
+  -- with another frame, or another progress, of which the arrays have their lengths
+  framed : (i : Incoming) → length (i .body) ≡ 128 → Sized (withIncoming s i)
+  framed i l = record { body = l; required = z .required; measured = z .measured; udi = z .udi; uss = z .uss }
+
+  going-on : (p : Progress) → length (p .uss) ≡ 32 → Sized (between s p)
+  going-on p l = record { body = refl; required = z .required; measured = z .measured; udi = z .udi; uss = l }
+
+  opened-sized : (b : ℕ) (r : Reading) → Sized (afterStep (opened r (s .incoming) b) s .state)
+  opened-sized b (good id ep n) = framed _ (z .body)
+  opened-sized b (stop k) = ended-sized _ (s .config .«ram_len»)
+
+  continued-sized : (b : ℕ) (r : Reading) → Sized (afterStep (continued r (s .incoming) b) s .state)
+  continued-sized b (good id ep n) =
+      let i = s .incoming in
+      framed _
+      (by-test (λ (j : Incoming). length (j .body) ≡ 128) (not (eqb ep 2) && eqb (i .got) n) _ _ (λ t. refl)
+      (λ t. by-test (λ (l : List ℕ). length l ≡ 128) (eqb ep 2) _ _ (λ u. rw length-set (z .body)) (λ u. z .body)))
+  continued-sized b (stop k) = ended-sized _ (s .config .«ram_len»)
+
+  gathered-sized : (b : ℕ) → Sized (gathered s b .state)
+  unfolding gathered byteStep
+  gathered-sized b =
+      by-test (λ (g : Gathering). Sized (g .state)) (eqb (gatherRefusal s) 0) _ _
+      (λ t.
+      by-test (λ (x : Step). Sized (afterStep x s .state)) (eqb (s .incoming .got) 0) _ _ (λ u. opened-sized b (headerAt b))
+      (λ u. continued-sized b (headerAt (s .incoming .header))))
+      (λ t. z)
+
+  -- a load's user secret has 32 bytes
+  load-sized : length (loadOf s .uss) ≡ 32
+  unfolding loadIn
+  load-sized = let l = z .body in length-take-le 32 (drop 6 (s .incoming .body)) (rw length-drop (omega arith))
+
+  decided-sized : (c : Config) (p : Progress) (d ram uds : List ℕ) → Sized (decided c p d ram uds .state)
+  unfolding decided starting
+  decided-sized c p d ram uds =
+      by-test (λ (x : Result). Sized (x .state)) (allowed c d) _ _ (λ t. ended-sized _ (c .«ram_len»)) (λ t. ended-sized _ (c .«ram_len»))
+
+  module _ (room ram uds : List ℕ) where
+    performed-sized : (r : Request) → Sized (performed r s room ram uds .state)
+    unfolding afterLoad actedBlock finishedWith
+    performed-sized asksName = going-on _ (z .uss)
+    performed-sized asksUdi = going-on _ (z .uss)
+    performed-sized givesLoad = going-on _ (by-test (λ (p : Progress). length (p .uss) ≡ 32) (takes s) _ _ (λ t. load-sized) (λ t. z .uss))
+    performed-sized givesBlock =
+        by-test (λ (o : Outcome). Sized (o .state)) (isLast (s .progress .size) (s .progress .block)) _ _
+        (λ t. decided-sized (s .config) (s .progress) _ _ uds) (λ t. going-on _ (z .uss))
+    performed-sized (halts k) = ended-sized _ (s .config .«ram_len»)
+
+    acted-sized : Sized (acted s room ram uds .state)
+    unfolding acted
+    acted-sized =
+        by-test (λ (o : Outcome). Sized (o .state)) (eqb (actRefusal s (length room) (length ram) (length uds)) 0) _ _ (λ t. performed-sized (requestOf s)) (λ t. z)
+
+begun-sized : (bytes udi : List ℕ) (f : Flash) (ram uds : List ℕ) → length bytes ≡ 256 → length udi ≡ 8 → length (f .builtIn) ≡ 32
+    → Sized (beginning bytes udi f ram uds .state)
+unfolding recordAt starting
+begun-sized bytes udi f ram uds l u d =
+    by-begin bytes udi f ram uds (λ (x : Result). Sized (x .state))
+    (record {
+      refused = λ k e n. ended-sized _ 1;
+      wait = λ h.
+          record {
+            body = refl;
+            required = by-test (λ (x : List ℕ). length x ≡ 32) (isType (recordAt bytes .type) 0) (f .builtIn) (take 32 (drop 8 bytes)) (λ t. d) (λ t. long 8 (omega arith));
+            measured = long 40 (omega arith);
+            udi = u;
+            uss = refl;
+          };
+      unknown = λ h. ended-sized _ (length ram);
+      unfit = λ h. ended-sized _ (length ram);
+      start = λ h x g. ended-sized _ (length ram);
+      fail = λ h x g. ended-sized _ (length ram);
+    })
+  where
+    long : (from : ℕ) → from + 32 ≤ 256 → length (take 32 (drop from bytes)) ≡ 32
+    long from h = length-take-le 32 (drop from bytes) (rw length-drop (omega arith))
+
+-- ---- the calls on the memory of a state
+
+module _ (s : State) (z : Sized s) where
+  gathers-as : (b : ℕ) → gatherCall (memoryOf s) b ≡ afterGather (gathered s b)
+  unfolding gatherCall
+  gathers-as b = rw (back s z .0, back s z .1)
+
+  acts-as : (room ram uds : List ℕ) (reply : ℕ) (old : Start) → actCall (memoryOf s) room ram uds reply old ≡ afterAct (acted s room ram uds) reply old
+  unfolding actCall
+  acts-as room ram uds reply old = rw (back s z .0, back s z .1)
+
+pub abi-theorems : AbiTheorems
+abi-theorems =
+    record {
+      lengths = lengths;
+      back = back;
+      forth = λ m l h. (sized m l, forth m l h);
+      answers = λ x y e f. head-theorems .answers x y (report x y e f);
+      begins = begun-sized;
+      gathers = λ s z b. (gathers-as s z b, gathered-sized s z b);
+      acts = λ s z room ram uds reply old. (acts-as s z room ram uds reply old, acted-sized s z room ram uds);
+    }
