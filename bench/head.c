@@ -1,32 +1,38 @@
 /*
- * The peer that `gather` and `act` are measured against: document 01's head as ordinary C, its state behind a pointer. It receives what
- * crates/bench_load sends to the proved head, and prints the same lines. Link it with reference.c.
+ * The peer that the proved head is measured against: document 01's head as ordinary C, with the three calls of include/mastfrap.h.
+ * Its state is the lent memory itself. Link it with reference.c.
  */
+#include <stddef.h>
 #include <stdint.h>
-#include <stdio.h>
 #include <string.h>
+
+#include "mastfrap.h"
 
 void reference_blake2s(const uint8_t *msg, size_t n, uint8_t out[32]);
 
-#define RAM_LEN 131072
+#define RAM_MOST 131072
+#define ADDRESS 0x40000000
 
-enum phase { WAITING, LOADING, STARTED, STOPPED };
-enum { GOES_ON = 0, STARTS = 128, IS_WHOLE = 129 }; /* otherwise an answer is the number of a refusal or of a stop */
+enum { WAITING, LOADING, STARTED, STOPPED };
+enum { VERIFY = 1, CHAINED = 2, USS_USED = 4 };
 
-struct head {
-    size_t ram_len;
-    int verify, chained;
-    uint8_t required[32], measured_id[32], udi[8];
-    enum phase phase;
-    uint32_t size, block;
-    int uss_used;
-    uint8_t uss[32];
-    uint8_t header, got, body[128];
-    size_t reply;
-    uint8_t cdi[32], digest[32];
+/* The lent bytes and numbers. */
+struct frame {
+    uint8_t body[128], header, got, phase, flags, required[32], measured_id[32], udi[8], uss[32];
 };
 
-static const uint8_t zeros[32];
+struct numbers {
+    uint32_t ram_len, size, block;
+};
+
+/* The head in a call that is not refused: its state, what else is lent, and what the call gives. */
+struct head {
+    struct numbers *n;
+    struct frame *f;
+    uint8_t *room, *ram;
+    uint32_t *uds, *reply_len, *start;
+    uint8_t *cdi, *digest;
+};
 
 static uint32_t number(const uint8_t *p)
 {
@@ -49,9 +55,9 @@ static int for_firmware(uint8_t header)
     return (header >> 3 & 3) == 2;
 }
 
-static int whole(const struct head *h)
+static int whole(const struct frame *f)
 {
-    return for_firmware(h->header) && h->got == length(h->header) + 1;
+    return for_firmware(f->header) && f->got == length(f->header) + 1;
 }
 
 static uint32_t blocks_for(uint32_t size)
@@ -59,253 +65,241 @@ static uint32_t blocks_for(uint32_t size)
     return size / 127 + (size % 127 != 0);
 }
 
-/* Nothing is in its flash: types 0 to 3 find a size of 0. */
-static int begin(struct head *h, const uint8_t record[256], const uint8_t udi[8], size_t ram_len, size_t words)
-{
-    uint32_t type = number(record);
+/* ---- refused calls */
 
-    memset(h, 0, sizeof *h);
-    if (words != 8 || ram_len == 0 || ram_len > RAM_LEN) {
-        h->phase = STOPPED;
-        h->ram_len = 1;
-        return words != 8 ? 5 : 7;
-    }
-    h->ram_len = ram_len;
-    if (type != 4 && type != 5) {
-        h->phase = STOPPED;
-        return type >= 6 ? 20 : 26;
-    }
-    h->verify = type == 5;
-    h->chained = record[4] & 1;
-    memcpy(h->required, record + 8, 32);
-    memcpy(h->measured_id, record + 40, 32);
-    memcpy(h->udi, udi, 8);
-    return GOES_ON;
-}
-
-static int in_range(const struct head *h)
+static int in_range(const struct numbers *n, const struct frame *f)
 {
-    if (h->ram_len == 0 || h->ram_len > RAM_LEN)
+    if (n->ram_len == 0 || n->ram_len > RAM_MOST || f->phase > STOPPED || f->flags > 7)
         return 0;
-    if (h->got == 0 ? h->header != 0 : bad(h->header) || (h->got > length(h->header) && !whole(h)))
+    if (f->got == 0 ? f->header != 0 : bad(f->header) || (f->got > length(f->header) && !whole(f)))
         return 0;
-    if (h->phase == WAITING)
-        return h->size == 0 && h->block == 0 && !h->uss_used && memcmp(h->uss, zeros, 32) == 0;
-    if (h->phase == LOADING)
-        return h->size >= 1 && h->size <= h->ram_len && h->block < blocks_for(h->size);
-    return 1;
+    return f->phase != LOADING || (n->size >= 1 && n->size <= n->ram_len && n->block < blocks_for(n->size));
 }
 
-static int gather_refusal(const struct head *h)
+static uint32_t state_refusal(const struct numbers *n, const struct frame *f, int wants_whole)
 {
-    if (!in_range(h))
+    if (!in_range(n, f))
         return 1;
-    if (h->phase == STARTED || h->phase == STOPPED)
+    if (f->phase == STARTED || f->phase == STOPPED)
         return 2;
-    return whole(h) ? 47 : 0;
+    return whole(f) == wants_whole ? 0 : 47;
 }
 
-static int act_refusal(const struct head *h, size_t room_len, size_t ram_len, size_t words)
+/* ---- ends */
+
+static void end(struct numbers *n, struct frame *f, uint8_t phase)
 {
-    if (!in_range(h))
-        return 1;
-    if (h->phase == STARTED || h->phase == STOPPED)
-        return 2;
-    if (!whole(h))
-        return 47;
-    if (room_len < 129)
-        return 3;
-    if (ram_len != h->ram_len)
-        return 4;
-    return words != 8 ? 5 : 0;
+    n->size = 0;
+    n->block = 0;
+    memset(f, 0, sizeof *f);
+    f->phase = phase;
 }
 
-static void end(struct head *h, enum phase phase)
+static uint32_t stop(struct numbers *n, struct frame *f, uint32_t why)
 {
-    size_t ram_len = h->ram_len, reply = h->reply;
-
-    memset(h, 0, sizeof *h);
-    h->ram_len = ram_len;
-    h->reply = reply;
-    h->phase = phase;
-}
-
-static int stop(struct head *h, int why)
-{
-    end(h, STOPPED);
+    end(n, f, STOPPED);
     return why;
 }
 
-static int reply(struct head *h, uint8_t *room, uint8_t code, int length_code, const void *content, size_t n)
+static uint32_t start(struct head *h, const uint8_t digest[32])
 {
-    size_t len = length((uint8_t)length_code);
+    struct frame *f = h->f;
+    uint8_t string[97];
 
-    memset(room, 0, 1 + len);
-    room[0] = (h->header & 0x60) | 2 << 3 | length_code;
-    room[1] = code;
-    memcpy(room + 2, content, n);
-    h->reply = 1 + len;
-    return GOES_ON;
-}
-
-static int load(struct head *h, uint8_t *room)
-{
-    uint32_t size = number(h->body + 1);
-    uint8_t status = size == 0 || size > h->ram_len || h->body[5] > 1;
-
-    if (!status) {
-        h->phase = LOADING;
-        h->size = size;
-        h->uss_used = h->body[5] == 1;
-        memcpy(h->uss, h->body + 6, 32);
-    }
-    return reply(h, room, 0x04, 1, &status, 1);
-}
-
-static int start(struct head *h, uint32_t *uds)
-{
-    uint8_t string[97], digest[32], cdi[32];
-
-    memcpy(digest, h->digest, 32);
     for (int i = 0; i < 32; i++)
-        string[i] = uds[i / 4] >> 8 * (i % 4);
-    string[32] = h->uss_used + 2 * h->chained;
-    memcpy(string + 33, h->chained ? h->measured_id : digest, 32);
-    memcpy(string + 65, h->uss, 32);
-    reference_blake2s(string, h->uss_used ? 97 : 65, cdi);
-    memset(uds, 0, 32);
-    end(h, STARTED);
+        string[i] = h->uds[i / 4] >> 8 * (i % 4);
+    string[32] = (f->flags & USS_USED ? 1 : 0) | (f->flags & CHAINED ? 2 : 0);
+    memcpy(string + 33, f->flags & CHAINED ? f->measured_id : digest, 32);
+    memcpy(string + 65, f->uss, 32);
+    reference_blake2s(string, f->flags & USS_USED ? 97 : 65, h->cdi);
     memcpy(h->digest, digest, 32);
-    memcpy(h->cdi, cdi, 32);
-    return STARTS;
+    memset(h->uds, 0, 32);
+    h->start[0] = ADDRESS;
+    h->start[1] = h->n->size;
+    end(h->n, f, STARTED);
+    return MASTFRAP_STARTED;
 }
 
-static int block(struct head *h, uint8_t *room, uint8_t *ram, uint32_t *uds)
+static uint32_t start_or_stop(struct head *h, const uint8_t digest[32])
 {
-    size_t at = (size_t)h->block * 127, left = h->size - at;
-    uint8_t content[33] = {0};
-
-    memcpy(ram + at, h->body + 1, left < 127 ? left : 127);
-    if (++h->block < blocks_for(h->size))
-        return reply(h, room, 0x06, 1, content, 1);
-    reference_blake2s(ram, h->size, h->digest);
-    memcpy(content + 1, h->digest, 32);
-    reply(h, room, 0x07, 3, content, 33);
-    if (h->verify && memcmp(h->required, h->digest, 32) != 0)
-        return stop(h, 25);
-    return start(h, uds);
+    if (h->f->flags & VERIFY && memcmp(h->f->required, digest, 32) != 0)
+        return stop(h->n, h->f, 25);
+    return start(h, digest);
 }
 
-static int perform(struct head *h, uint8_t *room, uint8_t *ram, uint32_t *uds)
+static void nothing_started(uint32_t start[2], uint8_t cdi[32], uint8_t digest[32])
 {
-    static const uint8_t name[12] = {'t', 'k', '1', ' ', 'm', 'k', 'd', 'f', 1};
-    unsigned len = length(h->header);
-    uint8_t content[9] = {0};
-
-    if (h->phase == LOADING)
-        return h->body[0] != 0x05 ? stop(h, 23) : len != 128 ? stop(h, 24) : block(h, room, ram, uds);
-    switch (h->body[0]) {
-    case 0x01:
-        return len != 1 ? stop(h, 24) : reply(h, room, 0x02, 2, name, 12);
-    case 0x08:
-        memcpy(content + 1, h->udi, 8);
-        return len != 1 ? stop(h, 24) : reply(h, room, 0x09, 2, content, 9);
-    case 0x03:
-        return len != 128 ? stop(h, 24) : load(h, room);
-    default:
-        return stop(h, 23);
-    }
+    memset(start, 0, 8);
+    memset(cdi, 0, 32);
+    memset(digest, 0, 32);
 }
 
-static void clear_frame(struct head *h)
+/* ---- begin */
+
+static uint32_t boot(struct head *h, const uint8_t *slot, uint64_t slot_len, uint64_t size)
 {
-    h->header = 0;
-    h->got = 0;
-    memset(h->body, 0, 128);
+    uint8_t digest[32];
+
+    if (size == 0 || size > slot_len || size > h->n->ram_len)
+        return stop(h->n, h->f, 26);
+    memcpy(h->ram, slot, size);
+    h->n->size = size;
+    reference_blake2s(h->ram, size, digest);
+    return start_or_stop(h, digest);
 }
 
-static int gather(struct head *h, uint8_t byte)
+static void read_record(struct frame *f, const uint8_t *record, const uint8_t udi[8], const uint8_t built_in[32])
 {
-    int refused = gather_refusal(h);
+    uint32_t type = number(record);
+
+    memset(f, 0, sizeof *f);
+    f->flags = (type != 1 && type != 4 ? VERIFY : 0) | (record[4] & 1 ? CHAINED : 0);
+    memcpy(f->required, type == 0 ? built_in : record + 8, 32);
+    memcpy(f->measured_id, record + 40, 32);
+    memcpy(f->udi, udi, 8);
+}
+
+uint32_t mastfrap_begin(uint32_t numbers[3], uint8_t bytes[236], const uint8_t *record, mastfrap_size record_len,
+                        const uint8_t udi[8], const uint8_t *slot0, mastfrap_size slot0_len, mastfrap_size size0,
+                        const uint8_t *slot1, mastfrap_size slot1_len, mastfrap_size size1, const uint8_t built_in[32],
+                        uint8_t *ram, mastfrap_size ram_len, uint32_t *uds, mastfrap_size uds_len, uint32_t start[2],
+                        uint8_t cdi[32], uint8_t digest[32])
+{
+    struct head h = {(struct numbers *)numbers, (struct frame *)bytes, NULL, ram, uds, NULL, start, cdi, digest};
+
+    if (uds_len != 8)
+        return 5;
+    if (record_len != 256)
+        return 6;
+    if (ram_len == 0 || ram_len > RAM_MOST)
+        return 7;
+    *h.n = (struct numbers){ram_len, 0, 0};
+    read_record(h.f, record, udi, built_in);
+    nothing_started(start, cdi, digest);
+    uint32_t type = number(record);
+    if (type > 5)
+        return stop(h.n, h.f, 20);
+    if (type >= 4)
+        return MASTFRAP_CONTINUE;
+    return type % 2 == 0 ? boot(&h, slot0, slot0_len, size0) : boot(&h, slot1, slot1_len, size1);
+}
+
+/* ---- gather */
+
+static void clear_frame(struct frame *f)
+{
+    memset(f->body, 0, 128);
+    f->header = 0;
+    f->got = 0;
+}
+
+uint32_t mastfrap_gather(uint32_t numbers[3], uint8_t bytes[236], uint8_t byte)
+{
+    struct numbers *n = (struct numbers *)numbers;
+    struct frame *f = (struct frame *)bytes;
+    uint32_t refused = state_refusal(n, f, 0);
 
     if (refused != 0)
         return refused;
-    if (h->got == 0) {
+    if (f->got == 0) {
         if (bad(byte))
-            return stop(h, 22);
-        h->header = byte;
-        h->got = 1;
-        return GOES_ON;
+            return stop(n, f, 22);
+        f->header = byte;
+        f->got = 1;
+        return MASTFRAP_CONTINUE;
     }
-    if (for_firmware(h->header))
-        h->body[h->got - 1] = byte;
-    if (h->got++ < length(h->header))
-        return GOES_ON;
-    if (for_firmware(h->header))
-        return IS_WHOLE;
-    clear_frame(h);
-    return GOES_ON;
+    if (for_firmware(f->header))
+        f->body[f->got - 1] = byte;
+    if (f->got++ < length(f->header))
+        return MASTFRAP_CONTINUE;
+    if (for_firmware(f->header))
+        return MASTFRAP_WHOLE;
+    clear_frame(f);
+    return MASTFRAP_CONTINUE;
 }
 
-static int act(struct head *h, uint8_t *room, size_t room_len, uint8_t *ram, size_t ram_len, uint32_t *uds, size_t words)
-{
-    int answer = act_refusal(h, room_len, ram_len, words);
+/* ---- act */
 
-    if (answer != 0)
-        return answer;
-    h->reply = 0;
-    answer = perform(h, room, ram, uds);
-    clear_frame(h);
-    return answer;
+static uint32_t reply(struct head *h, uint8_t code, int length_code, const void *content, size_t n)
+{
+    size_t len = length((uint8_t)length_code);
+
+    memset(h->room, 0, 1 + len);
+    h->room[0] = (h->f->header & 0x60) | 2 << 3 | length_code;
+    h->room[1] = code;
+    memcpy(h->room + 2, content, n);
+    *h->reply_len = 1 + len;
+    clear_frame(h->f);
+    return MASTFRAP_CONTINUE;
 }
 
-/* ---- what the server sends, as in crates/bench_load */
-
-static uint8_t frames[(1 + 1033) * 129], ram[RAM_LEN];
-
-static void fill(uint32_t size)
+static uint32_t load(struct head *h)
 {
-    for (size_t i = 0; i < sizeof frames; i++) {
-        size_t p = (i / 129 - 1) * 127 + i % 129 - 2;
-        if (i < 129)
-            frames[i] = 0x5a;
-        else
-            frames[i] = i % 129 == 1 ? 0x05 : (uint8_t)(p * 7 + p / 256);
-        if (i % 129 == 0)
-            frames[i] = 0x13;
+    struct frame *f = h->f;
+    uint32_t size = number(f->body + 1);
+    uint8_t flag = f->body[5], status = size == 0 || size > h->n->ram_len || flag > 1;
+
+    if (!status) {
+        f->phase = LOADING;
+        f->flags = (f->flags & ~USS_USED) | (flag == 1 ? USS_USED : 0);
+        h->n->size = size;
+        h->n->block = 0;
+        memcpy(f->uss, f->body + 6, 32);
     }
-    frames[1] = 0x03;
-    for (int i = 0; i < 4; i++)
-        frames[2 + i] = size >> 8 * i;
-    frames[6] = 1;
+    return reply(h, 0x04, 1, &status, 1);
 }
 
-int main(void)
+static uint32_t block(struct head *h)
 {
-    uint8_t input[8] = {0}, record[256] = {4}, udi[8], room[129];
-    struct head h;
-    uint64_t received = 0;
+    uint32_t at = h->n->block * 127, left = h->n->size - at;
+    uint8_t content[33] = {0};
 
-    if (fread(input, 1, 8, stdin) != 8)
-        return 1;
-    uint32_t size = number(input), times = number(input + 4);
-    size_t n = size > RAM_LEN ? sizeof frames : 129 * (1 + (size_t)blocks_for(size));
-    memset(udi, 0xd0, 8);
-    memset(&h, 0, sizeof h);
-    fill(size);
-    for (; times > 0; times--) {
-        uint32_t uds[8];
-        for (int i = 0; i < 8; i++)
-            uds[i] = 0x13121110;
-        begin(&h, record, udi, RAM_LEN, 8);
-        for (size_t i = 0; i < n; i++)
-            if (gather(&h, frames[i]) == IS_WHOLE)
-                act(&h, room, sizeof room, ram, sizeof ram, uds, 8);
-        received += n;
+    memcpy(h->ram + at, h->f->body + 1, left < 127 ? left : 127);
+    if (++h->n->block < blocks_for(h->n->size))
+        return reply(h, 0x06, 1, content, 1);
+    reference_blake2s(h->ram, h->n->size, content + 1);
+    reply(h, 0x07, 3, content, 33);
+    return start_or_stop(h, content + 1);
+}
+
+static uint32_t perform(struct head *h)
+{
+    static const uint8_t name[12] = {'t', 'k', '1', ' ', 'm', 'k', 'd', 'f', 1};
+    struct frame *f = h->f;
+    unsigned len = length(f->header);
+    uint8_t content[9] = {0};
+
+    if (f->phase == LOADING)
+        return f->body[0] != 0x05 ? stop(h->n, f, 23) : len != 128 ? stop(h->n, f, 24) : block(h);
+    switch (f->body[0]) {
+    case 0x01:
+        return len != 1 ? stop(h->n, f, 24) : reply(h, 0x02, 2, name, 12);
+    case 0x08:
+        memcpy(content + 1, f->udi, 8);
+        return len != 1 ? stop(h->n, f, 24) : reply(h, 0x09, 2, content, 9);
+    case 0x03:
+        return len != 128 ? stop(h->n, f, 24) : load(h);
+    default:
+        return stop(h->n, f, 23);
     }
-    printf("size %u\nreceived %llu\ncdi ", size, (unsigned long long)received);
-    for (int i = 0; i < 32; i++)
-        printf("%02x", h.cdi[i]);
-    printf("\n");
-    return 0;
+}
+
+uint32_t mastfrap_act(uint32_t numbers[3], uint8_t bytes[236], uint8_t *room, mastfrap_size room_len, uint8_t *ram,
+                      mastfrap_size ram_len, uint32_t *uds, mastfrap_size uds_len, uint32_t *reply_len, uint32_t start[2],
+                      uint8_t cdi[32], uint8_t digest[32])
+{
+    struct head h = {(struct numbers *)numbers, (struct frame *)bytes, room, ram, uds, reply_len, start, cdi, digest};
+    uint32_t refused = state_refusal(h.n, h.f, 1);
+
+    if (refused != 0)
+        return refused;
+    if (room_len < 129)
+        return 3;
+    if (ram_len != h.n->ram_len)
+        return 4;
+    if (uds_len != 8)
+        return 5;
+    *reply_len = 0;
+    nothing_started(start, cdi, digest);
+    return perform(&h);
 }

@@ -6,5 +6,5 @@ cd "$(dirname "$0")/.."
 rt check bench_load >/dev/null
 mkdir -p target/bench
 gcc -O3 -c bench/reference.c -o target/bench/reference.o
-gcc -O3 -Wall bench/head.c target/bench/reference.o -o target/bench/head
+gcc -O3 -flto -Wall -I include bench/pair.c bench/head.c target/bench/reference.o -o target/bench/head
 python3 bench/pair.py target/bin/bench_load target/bench/head

@@ -111,6 +111,64 @@ uint32_t mastfrap_read_reply(size_t program_len, uint8_t id, uint32_t k, const u
 uint32_t mastfrap_difference(size_t program_len, uint8_t id, uint32_t k, const uint8_t *reply,
                              size_t reply_len);
 
+/* ---- libabi.a: the head */
+
+/* A length: 64 bits on every target, also where a pointer has 32. */
+typedef uint64_t mastfrap_size;
+
+/*
+ * What the three calls answer: 0, 64 or 65, or the number of a refusal or of a stop. A refused call has changed nothing that
+ * it was lent. After a stop or a start every later call of gather or act on the state is refused with 2.
+ */
+enum {
+    MASTFRAP_CONTINUE = 0, /* the record or the byte is taken, or the frame was acted on: the session goes on */
+
+    MASTFRAP_REFUSED_STATE = 1,          /* the state's memory holds no state, or a field out of its range (gather, act) */
+    MASTFRAP_REFUSED_ENDED = 2,          /* the head has started or stopped (gather, act) */
+    MASTFRAP_REFUSED_REPLY_ROOM = 3,     /* room_len is under 129 (act) */
+    MASTFRAP_REFUSED_RAM_LENGTH = 4,     /* ram_len is not that at begin (act) */
+    MASTFRAP_REFUSED_SECRET_LENGTH = 5,  /* uds_len is not 8 (begin, act) */
+    MASTFRAP_REFUSED_RECORD_LENGTH = 6,  /* record_len is not 256 (begin) */
+    MASTFRAP_REFUSED_RAM_SIZE = 7,       /* ram_len is 0 or over 131,072 (begin) */
+    MASTFRAP_REFUSED_OUT_OF_TURN = 47,   /* a frame is whole (gather), or none is (act) */
+
+    MASTFRAP_STOPPED_TYPE = 20,          /* the record's type is 6 or above (begin) */
+    MASTFRAP_STOPPED_HEADER = 22,        /* bit 7 or bit 2 of a header is set (gather) */
+    MASTFRAP_STOPPED_COMMAND = 23,       /* the command is not allowed now, or unknown (act) */
+    MASTFRAP_STOPPED_BODY_LENGTH = 24,   /* the command has another body length (act) */
+    MASTFRAP_STOPPED_DIGEST = 25,        /* the program has not the required digest (begin, act) */
+    MASTFRAP_STOPPED_PROGRAM_SIZE = 26,  /* the program in flash has size 0, or over the slot or RAM (begin) */
+
+    MASTFRAP_WHOLE = 64,  /* the byte is taken, and with it a frame is whole: call act (gather) */
+    MASTFRAP_STARTED = 65 /* the program at the front of RAM is to run (begin, act) */
+};
+
+/*
+ * The state of a head, in memory that the caller lends: three numbers and 236 bytes.
+ *     numbers  0 the RAM's length, 1 the program's size, 2 the block that is waited for
+ *     bytes    0 to 127 the body of the frame, 128 its header, 129 how many of its bytes have come, the header among them,
+ *              130 phase: 0 waiting, 1 loading, 2 started, 3 stopped,
+ *              131 flags: 1 a digest is required, 2 the measurement is measured_id (RESET_SEED), 4 the user secret is used,
+ *              132 to 163 the required digest, 164 to 195 measured_id, 196 to 203 the UDI, 204 to 235 the user secret (USS)
+ * Other numbers in bytes 130 and 131 are no state.
+ */
+#define MASTFRAP_STATE_NUMBERS 3
+#define MASTFRAP_STATE_BYTES 236
+
+/* order of arguments: the state; then what is lent to read; then what is lent to write */
+uint32_t mastfrap_begin(uint32_t numbers[MASTFRAP_STATE_NUMBERS], uint8_t bytes[MASTFRAP_STATE_BYTES],
+                        const uint8_t *record, mastfrap_size record_len, const uint8_t udi[8],
+                        const uint8_t *slot0, mastfrap_size slot0_len, mastfrap_size size0,
+                        const uint8_t *slot1, mastfrap_size slot1_len, mastfrap_size size1,
+                        const uint8_t built_in[32], uint8_t *ram, mastfrap_size ram_len, uint32_t *uds, mastfrap_size uds_len,
+                        uint32_t start[2], uint8_t cdi[32], uint8_t digest[32]);
+
+uint32_t mastfrap_gather(uint32_t numbers[MASTFRAP_STATE_NUMBERS], uint8_t bytes[MASTFRAP_STATE_BYTES], uint8_t byte);
+
+uint32_t mastfrap_act(uint32_t numbers[MASTFRAP_STATE_NUMBERS], uint8_t bytes[MASTFRAP_STATE_BYTES],
+                      uint8_t *room, mastfrap_size room_len, uint8_t *ram, mastfrap_size ram_len, uint32_t *uds,
+                      mastfrap_size uds_len, uint32_t *reply_len, uint32_t start[2], uint8_t cdi[32], uint8_t digest[32]);
+
 #ifdef __cplusplus
 }
 #endif

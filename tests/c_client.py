@@ -208,7 +208,7 @@ def load(rng, seen, headlog, size, type, secret, right=True):
     sent = frames(seen, program, id, secret, rng.randbytes(32) if secret is None else secret)
     if size > PRINTER_RAM:
         sent = sent[:1]
-    done, _ = play(headlog, record + uds + udi + b"".join(sent))
+    done, _ = play([headlog], record + uds + udi + b"".join(sent))
     *replies, end = done.stdout.decode().splitlines() or [""]
     chained = mask[0] & 1
     hashed = uds + bytes([(secret is not None) + 2 * chained]) + (measured_id if chained else digest) + (b"" if secret is None else secret)

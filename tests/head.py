@@ -89,8 +89,6 @@ class Head:
             return False
         if f.got > 0 and (f.bad() or f.got > f.length() and not f.whole()):
             return False
-        if self.phase == "waiting":
-            return self.size == 0 and self.block == 0 and not self.uss_used and self.uss == ZEROS
         if self.phase == "loading":
             return 1 <= self.size <= self.ram and self.block * 127 < self.size
         return True
@@ -186,6 +184,7 @@ class Head:
         if good:
             self.phase = "loading"
             self.size = size
+            self.block = 0
             self.uss_used = flag == 1
             self.uss = message[7:39]
         return Answer("W", reply=self.reply(f, room, 0x04, 4, bytes([0 if good else 1])))

@@ -174,11 +174,11 @@ def check(path, want):
     return stored.check(path, want)
 
 
-def play(name, lines):
+def play(name, lines, command=(HEADLOG,)):
     """0 if headlog prints these lines for an item and reads all of it, and no byte more; otherwise says what is wrong, and gives 1."""
     data = (SAMPLE / f"{name}.bin").read_bytes()
     after = b"" if lines[-1].startswith("W") else b"\xff\x10\x01"
-    what = wrong(HEADLOG, data + after, lines, len(data))
+    what = wrong(command, data + after, lines, len(data))
     if what:
         print(f"{name}: {what}", file=sys.stderr)
     return int(bool(what))

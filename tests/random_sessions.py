@@ -32,19 +32,19 @@ EDGES = [f"start of size {n}" for n in SIZES + LARGE_SIZES] + [f"stop at type {t
 EDGES += [f"start after size {n}" for n in BAD_SIZES] + [f"start after flag {k}" for k in BAD_FLAGS] + ["block after a bad flag"]
 
 
-def play(program, data):
+def play(command, data):
     """What the program wrote, its exit status, and the place in its input where it left off."""
     with tempfile.TemporaryFile() as f:
         f.write(data)
         f.seek(0)
-        done = subprocess.run([program], stdin=f, capture_output=True, timeout=SECONDS)
+        done = subprocess.run(command, stdin=f, capture_output=True, timeout=SECONDS)
         return done, os.lseek(f.fileno(), 0, os.SEEK_CUR)
 
 
-def wrong(program, data, lines, read):
+def wrong(command, data, lines, read):
     """What is wrong with the program's run, or nothing."""
     try:
-        done, place = play(program, data)
+        done, place = play(command, data)
     except (OSError, subprocess.TimeoutExpired) as why:
         return str(why)
     wanted = "".join(line + "\n" for line in lines).encode()
@@ -80,7 +80,7 @@ def end_kinds(s, last):
     return [last if last[0] in "EF" else last[0]]
 
 
-def main(program):
+def main(command):
     if headlog(EXAMPLE)[0] != EXAMPLE_LINES:
         print("head.py does not print the document's example")
         return 1
@@ -88,8 +88,8 @@ def main(program):
     for seed in range(SESSIONS):
         s, data = session(seed)
         lines, read = headlog(data)
-        if what := wrong(program, data, lines, read):
-            print(f"seed {seed}: {what}\n  again: tests/random_sessions.py --seed {seed} | {program}")
+        if what := wrong(command, data, lines, read):
+            print(f"seed {seed}: {what}\n  again: tests/random_sessions.py --seed {seed} | {' '.join(map(str, command))}")
             failures += 1
         if failures == MOST_FAILURES:
             print("the sessions after these are not played")
@@ -118,4 +118,4 @@ if __name__ == "__main__":
     if args.seed is not None:
         sys.stdout.buffer.write(session(args.seed)[1])
         sys.exit(0)
-    sys.exit(main(args.headlog))
+    sys.exit(main([args.headlog]))

@@ -1,15 +1,19 @@
 #!/usr/bin/env python3
-"""Hashes in parts against hashlib, headers against their bits and CDIs against document 01's rule. The program `test_calls` makes each call;
-hashes in one call are in c_abi.py.
+"""Hashes in parts against hashlib, headers against their bits and CDIs against document 01's rule. The program `test_calls` makes
+each call; hashes in one call are in c_abi.py.
 
-    vectors.py
+    vectors.py              makes all calls
+    vectors.py --store      writes the stored input and output of `test_calls`: one call of each kind
+    vectors.py --check      exits non-zero unless these are so stored
 """
 import hashlib
 import struct
 import sys
+from pathlib import Path
 
 import calls
 
+STORED = Path(__file__).parent.parent / "crates" / "test_calls"
 LONGEST = 4294967295
 KEYS = [0, 1, 31, 32]
 LENGTHS = [0, 1, 63, 64, 65, 127, 128, 129, 255, 256]
@@ -100,13 +104,42 @@ def headers(made):
                 made.write_header(i, ep, n, 255 if refused else int(f"0{i:02b}{ep:02b}0{codes[n]}", 2))
 
 
-def identifiers(made):
+def identifier(made, chained, used):
     """UDS, domain, measurement, then USS if used; bit 0 of the domain says that it is used, bit 1 that the mask has RESET_SEED."""
     uds, measured_id, digest, uss = parts = [counting(32, first) for first in [0x00, 0x20, 0x40, 0x60]]
+    string = uds + bytes([used + 2 * chained]) + (measured_id if chained else digest) + (uss if used else b"")
+    made.derive(f"CDI, chained {chained}, secret {used}", chained, used, parts, hashlib.blake2s(string).digest())
+
+
+def identifiers(made):
     for chained in [False, True]:
         for used in [False, True]:
-            string = uds + bytes([used + 2 * chained]) + (measured_id if chained else digest) + (uss if used else b"")
-            made.derive(f"CDI, chained {chained}, secret {used}", chained, used, parts, hashlib.blake2s(string).digest())
+            identifier(made, chained, used)
+
+
+# ---- what the gate's run of the program has on standard input: RFC 7693's example in parts, a header each way, and a CDI
+
+
+def example():
+    made = calls.Calls()
+    Hash(made, "abc").update(b"ab").update(b"c").finish()
+    made.read_header(0x73, 3, 2, 128)
+    made.write_header(3, 2, 128, 0x73)
+    identifier(made, True, True)
+    return {"stdin": made.input(), "stdout": made.output()}
+
+
+def check():
+    wrong = [name for name, want in example().items() if (STORED / name).read_bytes() != want]
+    for name in wrong:
+        print(f"vectors: {STORED / name} is not what the independent program says", file=sys.stderr)
+    return 1 if wrong else 0
+
+
+def store():
+    for name, want in example().items():
+        (STORED / name).write_bytes(want)
+    return 0
 
 
 def main():
@@ -121,4 +154,7 @@ def main():
 
 
 if __name__ == "__main__":
-    sys.exit(main())
+    wanted = {(): main, ("--store",): store, ("--check",): check}.get(tuple(sys.argv[1:]))
+    if wanted is None:
+        sys.exit(__doc__)
+    sys.exit(wanted())

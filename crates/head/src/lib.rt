@@ -34,34 +34,34 @@ pub enum Phase {
 
 // The frame that is being gathered, or that is whole and waits to be acted on.
 pub struct Incoming {
+    // Its body, if it is for the firmware.
+    pub body: [u8; 128],
     pub header: u8,
     // How many of its bytes have come, the header among them; 0 between frames.
     pub got: u8,
-    // Its body, if it is for the firmware.
-    pub body: [u8; 128],
 }
 
 // What begin fixed.
 pub struct Config {
     pub ram_len: usize,
-    // Whether the program must have the required digest.
-    pub verify: bool,
     pub required: [u8; 32],
-    // Whether the measurement is measured_id (RESET_SEED), and not the program's digest.
-    pub chained: bool,
     pub measured_id: [u8; 32],
     pub udi: [u8; 8],
+    // Whether the program must have the required digest.
+    pub verify: bool,
+    // Whether the measurement is measured_id (RESET_SEED), and not the program's digest.
+    pub chained: bool,
 }
 
 // How far the load is.
 pub struct Progress {
-    pub phase: Phase,
     // The program's size.
     pub size: u32,
     // The number of the block that is waited for.
     pub block: u32,
-    pub uss_used: bool,
     pub uss: [u8; 32],
+    pub uss_used: bool,
+    pub phase: Phase,
 }
 
 pub struct State {

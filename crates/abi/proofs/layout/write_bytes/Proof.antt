@@ -18,10 +18,10 @@ measured : (z : tie.Start) → length (z .args .s .config .«measured_id») ≡ 
 measured z = search (needs, z .good .0)
 
 udi : (z : tie.Start) → length (z .args .s .config .udi) ≡ 8
-udi z = length-unmapped ℕ (z .args .s .config .udi) 8 (z .good .0 .1 .1 .1 .0 .1 .1 .1 .1 .1 .1 .1 .0 .1 .0 .1)
+udi z = search (needs, z .good .0)
 
 uss : (z : tie.Start) → length (z .args .s .progress .uss) ≡ 32
-uss z = length-unmapped ℕ (z .args .s .progress .uss) 32 (z .good .0 .1 .1 .1 .1 .0 .1 .1 .1 .1 .1 .1 .0 .1 .0 .1)
+uss z = search (needs, z .good .0)
 
 sized : (z : tie.Start) → Sized (z .args .s)
 sized z = record { body = body z; required = required z; measured = measured z; udi = udi z; uss = uss z }

@@ -1,0 +1,282 @@
+"""The head's C calls on memory that is lent to them, each held to head.py: its answer, and every byte of the memory after it.
+
+A `Memory` has all that gather and act are lent, in one array with guard bytes around each part. What a call must leave there
+follows from what it finds there: the state is read from the memory by the layout in include/mastfrap.h, head.py plays the call,
+and the next state goes back by the layout. A call that is refused must leave all of it, and one that is not must write every part
+that it gives.
+"""
+import ctypes
+import mmap
+import struct
+from collections import Counter
+from functools import lru_cache
+
+from head import ADDRESS, Answer, Frame, Head, begin
+
+NUMBERS, BYTES = 3, 236
+ROOM, WORDS = 160, 9  # what there is to lend from
+SPARE = 8  # guard bytes, at least, on either side of a part
+GUARD, STALE = b"\xa5", b"\x99"  # what is in them, and in what a call gives before it
+MAP_NORESERVE = 0x4000  # of Linux; python 3.11 has no name for it
+PHASES = ["waiting", "loading", "started", "stopped"]
+STATE = "128s4B32s32s8s32s"  # body; header, got, phase, flags; required digest, measured_id, UDI, USS
+
+
+class Difference(Exception):
+    pass
+
+
+# ---- the layout
+
+
+def state_in(numbers, data):
+    """The head that memory holds, or nothing."""
+    ram, size, block = struct.unpack("<3I", numbers)
+    body, header, got, phase, flags, required, measured_id, udi, uss = struct.unpack(STATE, data)
+    if phase > 3 or flags > 7:
+        return None
+    frame = Frame(header, got, bytearray(body))
+    verify, chained, uss_used = (flags & bit != 0 for bit in (1, 2, 4))
+    return Head(ram, udi, verify, required, chained, measured_id, PHASES[phase], size, block, uss, uss_used, frame)
+
+
+def state_parts(head):
+    """A head as its memory holds it."""
+    f, flags = head.frame, head.verify + 2 * head.chained + 4 * head.uss_used
+    small = f.header, f.got, PHASES.index(head.phase), flags
+    data = struct.pack(STATE, bytes(f.body), *small, head.required, head.measured_id, head.udi, head.uss)
+    return {"numbers": struct.pack("<3I", head.ram, head.size, head.block), "bytes": data}
+
+
+def start_parts(answer):
+    """What begin and act give of a start, and zeros where there is none."""
+    start = (ADDRESS, answer.number) if answer.kind == "S" else (0, 0)
+    return {"start": struct.pack("<2I", *start), "cdi": answer.cdi, "digest": answer.digest}
+
+
+def word_bytes(words):
+    return struct.pack(f"<{len(words)}I", *words)
+
+
+def begin_parts(answer, head, record, ram, words):
+    """All that a begin writes that is not refused."""
+    return start_parts(answer) | state_parts(head) | {"ram": ram, "words": word_bytes(words)}
+
+
+def act_parts(answer, head, room, ram, words):
+    lent = {"reply_len": struct.pack("<I", answer.reply), "ram": ram, "words": word_bytes(words)}
+    return start_parts(answer) | state_parts(head) | lent | ({} if isinstance(room, Long) else {"room": room})
+
+
+def answer_number(answer):
+    return {"W": 0, "A": 64, "S": 65}.get(answer.kind, answer.number)
+
+
+# ---- memory
+
+
+@lru_cache
+def places(parts):
+    """Where each part of an array goes, guard bytes between: words at a place that is good for them, bytes at one that is not."""
+    found, end = {}, 0
+    for name, size, of_words in parts:
+        at = (end + SPARE + 3) // 4 * 4 + (0 if of_words else 1)
+        found[name] = slice(at, at + size)
+        end = at + size
+    return found, end + SPARE
+
+
+class Array:
+    """Named parts of one piece of memory."""
+
+    def __init__(self, parts):
+        self.at, size = places(parts)
+        self.data = bytearray(GUARD * size)
+        self.held = (ctypes.c_char * size).from_buffer(self.data)
+        self.base = ctypes.addressof(self.held)
+
+    def __getitem__(self, name):
+        return self.data[self.at[name]]
+
+    def __setitem__(self, name, value):
+        """Sets the front of a part, as much as there is of the value."""
+        start = self.at[name].start
+        self.data[start : start + len(value)] = value
+
+    def pointer(self, name):
+        return self.base + self.at[name].start
+
+    def difference(self, wanted):
+        """The first part that is not as wanted, or the guard bytes."""
+        for name, at in self.at.items():
+            if self.data[at] != wanted[at]:
+                return f"{name}\n  got      {self.data[at].hex()}\n  expected {wanted[at].hex()}"
+        return "bytes around what was lent were written"
+
+
+def read_only(**parts):
+    """What a call is lent to read."""
+    array = Array(tuple((name, len(value), False) for name, value in parts.items()))
+    for name, value in parts.items():
+        array[name] = value
+    return array
+
+
+GIVEN = {"reply_len": 4, "start": 8, "cdi": 32, "digest": 32}
+STARTING = ["start", "cdi", "digest"]
+
+
+class Memory(Array):
+    """All that a head is lent, RAM and words as long as there is to lend from."""
+
+    def __init__(self, ram, words):
+        sizes = {"numbers": 4 * NUMBERS, "bytes": BYTES, "room": ROOM, "ram": len(ram), "words": 4 * WORDS} | GIVEN
+        super().__init__(tuple((name, size, name in ("numbers", "words", "reply_len", "start")) for name, size in sizes.items()))
+        self["ram"] = ram
+        self.set_words(words)
+
+    def set_words(self, words):
+        self["words"] = word_bytes(words)
+
+    def words(self, n):
+        return list(struct.unpack(f"<{n}I", self["words"][: 4 * n]))
+
+    def head(self):
+        return state_in(self["numbers"], self["bytes"])
+
+    def set_head(self, head):
+        for name, value in state_parts(head).items():
+            self[name] = value
+
+    def ended(self):
+        return self["bytes"][130] in (2, 3)
+
+    def make_stale(self):
+        """What a call gives must be written by it, also where that is zeros."""
+        for name, size in GIVEN.items():
+            self[name] = STALE * size
+        self["room"] = b"\xee" * ROOM
+
+
+# ---- lengths of over 32 bits
+
+
+class Long:
+    """A loan of which only the length may be asked, and to the front of which a reply may be written."""
+
+    def __init__(self, n):
+        self.n = n
+        self.front = b""
+
+    def __len__(self):
+        return self.n
+
+    def __setitem__(self, at, value):
+        self.front = bytes(value)
+
+
+class Far:
+    """So much memory that its length is over 32 bits, all zeros. It takes no room but for what is written to it."""
+
+    MORE = 2**32  # bytes or words
+
+    def __init__(self):
+        flags = mmap.MAP_PRIVATE | mmap.MAP_ANONYMOUS | MAP_NORESERVE
+        self.area = mmap.mmap(-1, 4 * self.MORE + mmap.PAGESIZE, flags=flags, prot=mmap.PROT_READ | mmap.PROT_WRITE)
+        self.held = ctypes.c_char.from_buffer(self.area)
+        self.pointer = ctypes.addressof(self.held)
+
+    def take(self, what, wanted):
+        """Clears the front, which must hold this much and zeros."""
+        front = self.area[: mmap.PAGESIZE]
+        if front != wanted.ljust(mmap.PAGESIZE, b"\0"):
+            raise Difference(f"{what}: its long loan\n  got      {front[:256].hex()}\n  expected {wanted.hex()} and zeros")
+        self.area[: mmap.PAGESIZE] = bytes(mmap.PAGESIZE)
+
+
+# ---- calls
+
+
+class Calls:
+    """The C calls of a library. Each is made, and held to head.py; the first difference ends the test.
+
+    Numbers say how much is lent of RAM, words and room; far names the loan that is elsewhere and longer by 2^32, if any is."""
+
+    def __init__(self, path):
+        library = ctypes.CDLL(str(path))
+        pointer, size = ctypes.c_void_p, ctypes.c_uint64
+        lent, slot, ends = [pointer, size], [pointer, size, size], [pointer] * 3
+        self.c_begin = library.mastfrap_begin
+        self.c_begin.argtypes = [pointer, pointer, *lent, pointer, *slot, *slot, pointer, *lent, *lent, *ends]
+        self.c_gather = library.mastfrap_gather
+        self.c_gather.argtypes = [pointer, pointer, ctypes.c_uint8]
+        self.c_act = library.mastfrap_act
+        self.c_act.argtypes = [pointer, pointer, *lent, *lent, *lent, pointer, *ends]
+        for call in (self.c_begin, self.c_gather, self.c_act):
+            call.restype = ctypes.c_uint32
+        self.far = Far()
+        self.seen = Counter()
+        self.group = ""
+
+    def hold(self, what, call, memory, answer, parts, made):
+        """Makes a call, and compares it; parts are what it must write."""
+        wanted = bytearray(memory.data)
+        for name, value in parts.items():
+            start = memory.at[name].start
+            wanted[start : start + len(value)] = value
+        number = made()
+        if number != answer_number(answer):
+            raise Difference(f"{what}, {call}: answered {number}, expected {answer_number(answer)}")
+        if memory.data != wanted:
+            raise Difference(f"{what}, {call}, answered {number}: {memory.difference(wanted)}")
+        shown = f"{answer.kind} {answer.number}" if answer.kind in "XF" else answer.kind
+        if shown == "X 1":
+            self.seen["memory", "out of range" if memory.head() else "no state"] += 1
+        self.seen[call, shown] += 1
+        self.seen[f"{call} {self.group}", shown] += 1
+        return answer
+
+    def lend(self, array, far, name, n):
+        """A loan as the arguments of a call."""
+        return (self.far.pointer, n + Far.MORE) if name == far else (array.pointer(name), n)
+
+    def begin(self, what, memory, record, udi, slots, built_in, ram, words, far=None):
+        memory.make_stale()
+        lent = {"record": record, "ram": memory["ram"][:ram], "words": memory.words(words)}
+        if far:
+            lent[far] = Long(len(lent[far]) + Far.MORE)
+        answer, head = begin(lent["record"], udi, slots, built_in, lent["ram"], lent["words"])
+        parts = {} if answer.kind == "X" else begin_parts(answer, head, **lent)
+        array = read_only(record=record, udi=udi, slot0=slots[0].flash, slot1=slots[1].flash, built_in=built_in)
+        before, m, r = bytes(array.data), memory.pointer, array.pointer
+        call = [m("numbers"), m("bytes"), *self.lend(array, far, "record", len(record)), r("udi")]
+        call += [x for k in (0, 1) for x in (r(f"slot{k}"), len(slots[k].flash), slots[k].size)]
+        call += [r("built_in"), *self.lend(memory, far, "ram", ram), *self.lend(memory, far, "words", words), *map(m, STARTING)]
+        self.hold(what, "begin", memory, answer, parts, lambda: self.c_begin(*call))
+        if far:
+            self.far.take(what, lent[far].front)
+        if array.data != before:
+            raise Difference(f"{what}, begin: {array.difference(before)}")
+        return answer
+
+    def gather(self, what, memory, byte):
+        head, m = memory.head(), memory.pointer
+        answer = head.gather(byte) if head else Answer("X", 1)
+        parts = {} if answer.kind == "X" else state_parts(head)
+        return self.hold(what, "gather", memory, answer, parts, lambda: self.c_gather(m("numbers"), m("bytes"), byte))
+
+    def act(self, what, memory, room, ram, words, far=None):
+        memory.make_stale()
+        head, m = memory.head(), memory.pointer
+        lent = {"room": memory["room"][:room], "ram": memory["ram"][:ram], "words": memory.words(words)}
+        if far:
+            lent[far] = Long(len(lent[far]) + Far.MORE)
+        answer = head.act(*lent.values()) if head else Answer("X", 1)
+        parts = {} if answer.kind == "X" else act_parts(answer, head, **lent)
+        lengths = {"room": room, "ram": ram, "words": words}
+        loans = [x for name, n in lengths.items() for x in self.lend(memory, far, name, n)]
+        call = [m("numbers"), m("bytes"), *loans, m("reply_len"), *map(m, STARTING)]
+        self.hold(what, "act", memory, answer, parts, lambda: self.c_act(*call))
+        if far:
+            self.far.take(what, lent[far].front)
+        return answer
