@@ -1,22 +1,17 @@
 // Makes the calls on standard input, one after the other, and writes all that each gives, as bytes. tests/calls.py writes the input and
-// compares the output with what its independent programs say. The input has the number of calls in four bytes and then 320 bytes for each,
-// with what some calls have behind these; byte 0 of a call says which it is.
+// compares the output with what its independent programs say. The input has the number of calls in four bytes and then 320 bytes for each;
+// byte 0 of a call says which it is.
 mod hash;
 mod image;
-mod session;
 mod small;
 
 use libc::STDIN_FILENO;
 
 fn main() {
     let mut left = read_count();
-    let mut kept = session::none();
-    let mut ram = image::buffer();
     let mut context = hash::none();
     while 0 < left {
         let c = read_call();
-        let next = session::call(kept, c, &mut ram);
-        kept = next;
         let more = hash::call(context, c);
         context = more;
         small::call(c);

@@ -1,16 +1,14 @@
--- How many calls are left is the measure; RAM keeps its length.
+-- How many calls are left is the measure.
 use native.Mathlib.Omega.{arith}
-use mathlib.Core.Path.{_≡_}
-use lib.ListN.{length}
 use borrow.Author.Needs.{needs}
 use Rattle.test_calls.proofs.main.Statement.{statement}
 use Rattle.test_calls.proofs.main.Tie as tie
 
 abbrev Inv-loop : tie.InvT-loop
-Inv-loop left₀ kept₀ ram₀ context₀ left kept ram context = 131073 ≡ length ram
+Inv-loop left₀ context₀ left context = Unit {0}
 
 abbrev μ-loop : tie.MeasureT-loop
-μ-loop left₀ kept₀ ram₀ context₀ left kept ram context = left
+μ-loop left₀ context₀ left context = left
 
 pub main-spec : {M : Type 1} → statement M
 main-spec =
@@ -20,15 +18,11 @@ main-spec =
     μ-loop
     (λ c κs. search needs)
     (λ c κs. search needs)
-    (λ c κs. search needs)
-    (λ c κs. search needs)
-    (λ c. search needs)
-    (λ c κs. search needs)
-    (λ c. search needs)
+    (λ c. tt)
     (λ c κs. search needs)
     (λ c κs. search needs)
     (λ c κs. search needs)
     (λ c. search needs)
-    (λ c. omega (arith, c .before .before .before .before .before .before .loop-test .taken))
-    (λ c. search needs)
+    (λ c. omega (arith, c .before .before .before .loop-test .taken))
+    (λ c. tt)
     (λ c. search needs))
