@@ -1,27 +1,33 @@
 /*
  * The proved parts of Mastfrap that a C program can call, or one in any language that calls C: BLAKE2s
- * (RFC 7693) as proved in crates/blake2s, and the server's half of a load as proved in crates/client.
+ * (RFC 7693) as proved in crates/blake2s, the server's half of a load as proved in crates/client, and the
+ * head itself, for its firmware, as proved in crates/abi.
  *
- * `rt staticlib blake2s` writes target/staticlib/libblake2s.a, which has mastfrap_blake2s.
- * `rt staticlib client` writes target/staticlib/libclient.a, which has mastfrap_make_frame,
- * mastfrap_read_reply and mastfrap_difference. Link the one whose calls you use, or both: they have
- * no symbol in common.
+ *     rt staticlib blake2s    target/staticlib/libblake2s.a    mastfrap_blake2s
+ *     rt staticlib client     target/staticlib/libclient.a     mastfrap_make_frame, _read_reply, _difference
+ *     rt staticlib abi        target/staticlib/libabi.a        mastfrap_begin, _gather, _act
+ *     firmware/build.sh       target/riscv32/libmastfrap.a     the same three, for riscv32
  *
- * Each call answers 0, or the lowest number of its list that applies, and then has changed nothing.
+ * Link those whose calls you use: they have no symbol in common, but for the last two.
+ *
+ * Each call answers the lowest number of its list that applies. A call that answers the number of a
+ * refusal has changed nothing that it was lent.
  *
  * The proof takes the caller's word for this much: each pointer is not null, also where its length
- * is 0, and is good for its length, which is below 2^63; and no other thread writes to these bytes
- * meanwhile. Each call says below what must not overlap.
+ * is 0, is aligned as its type asks and is good for its length, which is below 2^63; and no other thread
+ * writes to these bytes meanwhile. Each call says below what must not overlap.
  */
 #ifndef MASTFRAP_H
 #define MASTFRAP_H
 
-#include <stddef.h>
 #include <stdint.h>
 
 #ifdef __cplusplus
 extern "C" {
 #endif
+
+/* A length: 64 bits on every target, also where a pointer has 32. */
+typedef uint64_t mastfrap_size;
 
 /* ---- libblake2s.a */
 
@@ -36,8 +42,8 @@ enum {
  * Writes the hash of the message, out_len bytes long, to out; key_len 0 is no key.
  * If the call is refused, no byte of out is changed. out overlaps neither key nor msg.
  */
-uint32_t mastfrap_blake2s(const uint8_t *key, size_t key_len, const uint8_t *msg, size_t msg_len,
-                          uint8_t *out, size_t out_len);
+uint32_t mastfrap_blake2s(const uint8_t *key, mastfrap_size key_len, const uint8_t *msg,
+                          mastfrap_size msg_len, uint8_t *out, mastfrap_size out_len);
 
 /* ---- libclient.a */
 
@@ -83,9 +89,9 @@ enum {
  * More that the proof takes the caller's word for: uss is good for 32 bytes, also where it is not
  * used. room overlaps neither program nor uss.
  */
-uint32_t mastfrap_make_frame(const uint8_t *program, size_t program_len, uint8_t id, uint8_t used,
+uint32_t mastfrap_make_frame(const uint8_t *program, mastfrap_size program_len, uint8_t id, uint8_t used,
                              const uint8_t uss[MASTFRAP_USS_BYTES], uint32_t k, uint8_t *room,
-                             size_t room_len);
+                             mastfrap_size room_len);
 
 /*
  * Reads the reply to command frame k of a program of program_len bytes. It is taken exactly when it
@@ -99,8 +105,8 @@ uint32_t mastfrap_make_frame(const uint8_t *program, size_t program_len, uint8_t
  * More that the proof takes the caller's word for: digest is good for 32 bytes. status, digest and
  * reply do not overlap.
  */
-uint32_t mastfrap_read_reply(size_t program_len, uint8_t id, uint32_t k, const uint8_t *reply,
-                             size_t reply_len, uint8_t *status,
+uint32_t mastfrap_read_reply(mastfrap_size program_len, uint8_t id, uint32_t k, const uint8_t *reply,
+                             mastfrap_size reply_len, uint8_t *status,
                              uint8_t digest[MASTFRAP_DIGEST_BYTES]);
 
 /*
@@ -108,66 +114,110 @@ uint32_t mastfrap_read_reply(size_t program_len, uint8_t id, uint32_t k, const u
  * that mastfrap_read_reply takes: 0 exactly where that call takes it, or refuses program_len, id or
  * k (40, 41, 42), since no reply is expected then. It writes nothing.
  */
-uint32_t mastfrap_difference(size_t program_len, uint8_t id, uint32_t k, const uint8_t *reply,
-                             size_t reply_len);
+uint32_t mastfrap_difference(mastfrap_size program_len, uint8_t id, uint32_t k, const uint8_t *reply,
+                             mastfrap_size reply_len);
 
 /* ---- libabi.a: the head */
 
-/* A length: 64 bits on every target, also where a pointer has 32. */
-typedef uint64_t mastfrap_size;
-
 /*
- * What the three calls answer: 0, 64 or 65, or the number of a refusal or of a stop. A refused call has changed nothing that
- * it was lent. After a stop or a start every later call of gather or act on the state is refused with 2.
+ * What begin, gather and act answer. After a start or a stop every later gather and act on the state is
+ * refused with 2, until the next begin.
  */
 enum {
-    MASTFRAP_CONTINUE = 0, /* the record or the byte is taken, or the frame was acted on: the session goes on */
+    MASTFRAP_CONTINUE = 0, /* the record or the byte is taken, or the frame was acted on */
 
-    MASTFRAP_REFUSED_STATE = 1,          /* the state's memory holds no state, or a field out of its range (gather, act) */
-    MASTFRAP_REFUSED_ENDED = 2,          /* the head has started or stopped (gather, act) */
-    MASTFRAP_REFUSED_REPLY_ROOM = 3,     /* room_len is under 129 (act) */
-    MASTFRAP_REFUSED_RAM_LENGTH = 4,     /* ram_len is not that at begin (act) */
-    MASTFRAP_REFUSED_SECRET_LENGTH = 5,  /* uds_len is not 8 (begin, act) */
-    MASTFRAP_REFUSED_RECORD_LENGTH = 6,  /* record_len is not 256 (begin) */
-    MASTFRAP_REFUSED_RAM_SIZE = 7,       /* ram_len is 0 or over 131,072 (begin) */
-    MASTFRAP_REFUSED_OUT_OF_TURN = 47,   /* a frame is whole (gather), or none is (act) */
+    MASTFRAP_REFUSED_STATE = 1,         /* the memory holds no state, or one out of its range (gather, act) */
+    MASTFRAP_REFUSED_ENDED = 2,         /* the head has started or stopped (gather, act) */
+    MASTFRAP_REFUSED_REPLY_ROOM = 3,    /* room_len is under 129 (act) */
+    MASTFRAP_REFUSED_RAM_LENGTH = 4,    /* ram_len is not that at begin (act) */
+    MASTFRAP_REFUSED_SECRET_LENGTH = 5, /* uds_len is not 8 (begin, act) */
+    MASTFRAP_REFUSED_RECORD_LENGTH = 6, /* record_len is not 256 (begin) */
+    MASTFRAP_REFUSED_RAM_SIZE = 7,      /* ram_len is 0 or over 131,072 (begin) */
+    MASTFRAP_REFUSED_OUT_OF_TURN = 47,  /* a frame is whole (gather), or none is (act) */
 
-    MASTFRAP_STOPPED_TYPE = 20,          /* the record's type is 6 or above (begin) */
-    MASTFRAP_STOPPED_HEADER = 22,        /* bit 7 or bit 2 of a header is set (gather) */
-    MASTFRAP_STOPPED_COMMAND = 23,       /* the command is not allowed now, or unknown (act) */
-    MASTFRAP_STOPPED_BODY_LENGTH = 24,   /* the command has another body length (act) */
-    MASTFRAP_STOPPED_DIGEST = 25,        /* the program has not the required digest (begin, act) */
-    MASTFRAP_STOPPED_PROGRAM_SIZE = 26,  /* the program in flash has size 0, or over the slot or RAM (begin) */
+    MASTFRAP_STOPPED_TYPE = 20,         /* the record's type is 6 or above (begin) */
+    MASTFRAP_STOPPED_HEADER = 22,       /* bit 7 or bit 2 of a header is set (gather) */
+    MASTFRAP_STOPPED_COMMAND = 23,      /* the command is not allowed now, or unknown (act) */
+    MASTFRAP_STOPPED_BODY_LENGTH = 24,  /* the command has another body length (act) */
+    MASTFRAP_STOPPED_DIGEST = 25,       /* the program has not the required digest (begin, act) */
+    MASTFRAP_STOPPED_PROGRAM_SIZE = 26, /* the size of the program in flash is 0, over the slot or over RAM (begin) */
 
-    MASTFRAP_WHOLE = 64,  /* the byte is taken, and with it a frame is whole: call act (gather) */
+    MASTFRAP_WHOLE = 64,  /* the byte is taken, and with it a frame is whole: act on it (gather) */
     MASTFRAP_STARTED = 65 /* the program at the front of RAM is to run (begin, act) */
 };
 
 /*
- * The state of a head, in memory that the caller lends: three numbers and 236 bytes.
- *     numbers  0 the RAM's length, 1 the program's size, 2 the block that is waited for
- *     bytes    0 to 127 the body of the frame, 128 its header, 129 how many of its bytes have come, the header among them,
- *              130 phase: 0 waiting, 1 loading, 2 started, 3 stopped,
- *              131 flags: 1 a digest is required, 2 the measurement is measured_id (RESET_SEED), 4 the user secret is used,
- *              132 to 163 the required digest, 164 to 195 measured_id, 196 to 203 the UDI, 204 to 235 the user secret (USS)
- * Other numbers in bytes 130 and 131 are no state.
+ * The state of a head between two calls, in memory that the caller lends: begin writes it, and it may be
+ * moved and copied.
+ *
+ *     numbers   0             the RAM's length
+ *               1             the program's size
+ *               2             the number of the block that is waited for
+ *     bytes     0 to 127      the body of the frame that is being gathered or is whole
+ *               128           its header
+ *               129           how many of its bytes have come, the header among them
+ *               130           0 waiting, 1 loading, 2 started, 3 stopped
+ *               131           the sum of 1, a digest is required; 2, the measurement is measured_id
+ *                             (RESET_SEED); 4, the user secret is used
+ *               132 to 163    the required digest
+ *               164 to 195    measured_id
+ *               196 to 203    the UDI
+ *               204 to 235    the user secret (USS)
+ *
+ * Memory with another number in byte 130 or 131 holds no state. docs/STATES.md has the ranges. No memory
+ * that begin, gather and act have left is refused with 1.
  */
 #define MASTFRAP_STATE_NUMBERS 3
 #define MASTFRAP_STATE_BYTES 236
 
-/* order of arguments: the state; then what is lent to read; then what is lent to write */
+#define MASTFRAP_RECORD_BYTES 256
+#define MASTFRAP_UDI_BYTES 8
+#define MASTFRAP_UDS_WORDS 8
+#define MASTFRAP_CDI_BYTES 32
+
+/*
+ * To run a head: begin, with the reset record. While the answer is 0, gather each byte from the cable, and
+ * at 64 act on the frame and send the reply. 65 is a start, and every other answer a stop, with the lamp.
+ * firmware/head.c does so.
+ *
+ * More that the proof takes the caller's word for, in all three: each array is good for as many bytes or
+ * words as stand in its brackets, and nothing that a call writes overlaps anything else that it is lent.
+ */
+
+/*
+ * Begins, from the reset record, the device's identity (UDI), two slots of flash with the size of the
+ * program at the front of each, and the digest that is built into the firmware for type 0. For types 0 to
+ * 3 this call is the whole boot: the program is put in RAM, and is started (65) if its digest is allowed.
+ * For types 4 and 5 a session begins (0).
+ *
+ * Unless the call is refused, numbers and bytes hold the state. After a start start[0] is the address and
+ * start[1] the size of the program, cdi its Compound Device Identifier and digest its digest, and each word
+ * of uds is 0; otherwise start, cdi and digest are zeros.
+ */
 uint32_t mastfrap_begin(uint32_t numbers[MASTFRAP_STATE_NUMBERS], uint8_t bytes[MASTFRAP_STATE_BYTES],
-                        const uint8_t *record, mastfrap_size record_len, const uint8_t udi[8],
+                        const uint8_t *record, mastfrap_size record_len,
+                        const uint8_t udi[MASTFRAP_UDI_BYTES],
                         const uint8_t *slot0, mastfrap_size slot0_len, mastfrap_size size0,
                         const uint8_t *slot1, mastfrap_size slot1_len, mastfrap_size size1,
-                        const uint8_t built_in[32], uint8_t *ram, mastfrap_size ram_len, uint32_t *uds, mastfrap_size uds_len,
-                        uint32_t start[2], uint8_t cdi[32], uint8_t digest[32]);
+                        const uint8_t built_in[MASTFRAP_DIGEST_BYTES],
+                        uint8_t *ram, mastfrap_size ram_len, uint32_t *uds, mastfrap_size uds_len,
+                        uint32_t start[2], uint8_t cdi[MASTFRAP_CDI_BYTES],
+                        uint8_t digest[MASTFRAP_DIGEST_BYTES]);
 
-uint32_t mastfrap_gather(uint32_t numbers[MASTFRAP_STATE_NUMBERS], uint8_t bytes[MASTFRAP_STATE_BYTES], uint8_t byte);
+/* Gathers a byte from the cable, in place. */
+uint32_t mastfrap_gather(uint32_t numbers[MASTFRAP_STATE_NUMBERS], uint8_t bytes[MASTFRAP_STATE_BYTES],
+                         uint8_t byte);
 
+/*
+ * Acts on the frame that is whole. ram is as long as at begin, and holds what the last call left there.
+ *
+ * Unless the call is refused, *reply_len says how many bytes at the front of room are a reply, 0 for none,
+ * and the rest of room stays; start, cdi, digest and uds are as after begin.
+ */
 uint32_t mastfrap_act(uint32_t numbers[MASTFRAP_STATE_NUMBERS], uint8_t bytes[MASTFRAP_STATE_BYTES],
-                      uint8_t *room, mastfrap_size room_len, uint8_t *ram, mastfrap_size ram_len, uint32_t *uds,
-                      mastfrap_size uds_len, uint32_t *reply_len, uint32_t start[2], uint8_t cdi[32], uint8_t digest[32]);
+                      uint8_t *room, mastfrap_size room_len, uint8_t *ram, mastfrap_size ram_len,
+                      uint32_t *uds, mastfrap_size uds_len, uint32_t *reply_len, uint32_t start[2],
+                      uint8_t cdi[MASTFRAP_CDI_BYTES], uint8_t digest[MASTFRAP_DIGEST_BYTES]);
 
 #ifdef __cplusplus
 }

@@ -10,11 +10,13 @@ use lib.ListN.{length, take, drop, length-set, length-drop}
 use lib.Seq.{length-take-le}
 use Rattle.endian.specs.Lists.{zeros}
 use Rattle.endian.proofs.Cases.{impossible}
-use Rattle.framing.specs.Header.{Reading, good, stop, headerAt}
+use Rattle.endian.specs.Endian.{word}
+use Rattle.framing.specs.Header.{Reading, good, stop, headerAt, headerByte}
 use Rattle.record.specs.Record.{recordAt}
 use Rattle.record.specs.Types.{isType}
 use Rattle.protocol.specs.Commands.{loadIn, isLast}
-use Rattle.head.specs.State.{ended}
+use Rattle.protocol.specs.Replies.{nameReply, replyHeader, putIn}
+use Rattle.head.specs.State.{inRange, ended}
 use Rattle.head.specs.Answers.{Report, refused, stopped, started, refusalNumber, stopNumber, reportOf, Gathering, Result, Outcome}
 use Rattle.head.specs.Start.{allowed, decided, starting}
 use Rattle.head.specs.Begin.{Flash, beginning}
@@ -35,8 +37,8 @@ use Rattle.head.proofs.Ranges.{by-test}
 use Rattle.head.proofs.Ways.{by-begin}
 use Rattle.head.proofs.Proved.{head-theorems}
 use Rattle.abi.specs.Layout.{memoryOf, stateIn}
-use Rattle.abi.specs.Calls.{answerNumber, startOf, Start, afterGather, gatherCall, afterAct, actCall}
-use Rattle.abi.specs.Theorems.{Sized, AbiTheorems}
+use Rattle.abi.specs.Calls.{answerNumber, startOf, Start, afterGather, gatherCall, beginCall, afterAct, actCall}
+use Rattle.abi.specs.Theorems.{Sized, Example, AbiTheorems}
 use Rattle.abi.proofs.RoundTrip.{lengths, back, sized, forth}
 
 -- ---- the numbers
@@ -191,6 +193,11 @@ module _ (s : State) (z : Sized s) where
   unfolding actCall
   acts-as room ram uds reply old = rw (back s z .0, back s z .1)
 
+example : Example
+unfolding beginCall gatherCall actCall stateIn memoryOf beginning recordAt gathered gatherRefusal inRange byteStep headerAt headerByte ended acted actRefusal
+    word nameReply replyHeader putIn
+example = record { begins = λ m old. refl; header = refl; query = refl; reply = λ old. refl; stop = refl }
+
 pub abi-theorems : AbiTheorems
 abi-theorems =
     record {
@@ -201,4 +208,5 @@ abi-theorems =
       begins = begun-sized;
       gathers = λ s z b. (gathers-as s z b, gathered-sized s z b);
       acts = λ s z room ram uds reply old. (acts-as s z room ram uds reply old, acted-sized s z room ram uds);
+      example = example;
     }
