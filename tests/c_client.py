@@ -46,7 +46,7 @@ KINDS = {
 
 def build():
     subprocess.run(["rt", "staticlib", "client"], cwd=TOP, check=True, stdout=subprocess.DEVNULL)
-    if not HASH.exists():  # c_abi.py makes it anew, which takes a minute; here it is only linked
+    if not HASH.exists():  # c_blake2s.py makes it anew, which takes a minute; here it is only linked
         subprocess.run(["rt", "staticlib", "blake2s"], cwd=TOP, check=True, stdout=subprocess.DEVNULL)
     os.makedirs(PROGRAM.parent, exist_ok=True)
     options = ["-O2", "-Wall", "-Wextra", "-Werror", "-I", "include"]

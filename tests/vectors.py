@@ -1,6 +1,6 @@
 #!/usr/bin/env python3
 """Hashes in parts against hashlib, headers against their bits and CDIs against document 01's rule. The program `test_calls` makes
-each call; hashes in one call are in c_abi.py.
+each call; hashes in one call are in c_blake2s.py.
 
     vectors.py              makes all calls
     vectors.py --store      writes the stored input and output of `test_calls`: one call of each kind

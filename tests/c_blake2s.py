@@ -1,5 +1,5 @@
 #!/usr/bin/env python3
-"""The exported C function against hashlib: builds the static library, links it to tests/c_abi.c, runs
+"""The exported C function against hashlib: builds the static library, links it to tests/c_blake2s.c, runs
 that on valid and refused input, and compares every answer and every byte of the output room.
 Prints how many cases of each answer there were, and fails if an answer never came up."""
 import collections
@@ -11,7 +11,7 @@ import subprocess
 import sys
 
 TOP = os.path.dirname(os.path.dirname(os.path.abspath(__file__)))
-PROGRAM = os.path.join(TOP, "target", "tests", "c_abi")
+PROGRAM = os.path.join(TOP, "target", "tests", "c_blake2s")
 LONGEST = 4294967295  # a longer message is refused
 SHORT = 1 << 20  # a message over this is made by the C program: zeros
 ANSWERS = [0, 8, 9, 10]
@@ -29,7 +29,7 @@ def build():
     subprocess.run(["rt", "staticlib", "blake2s"], cwd=TOP, check=True, stdout=subprocess.DEVNULL)
     os.makedirs(os.path.dirname(PROGRAM), exist_ok=True)
     subprocess.run(
-        ["gcc", "-O2", "-Wall", "-Wextra", "-Werror", "-I", "include", "tests/c_abi.c"]
+        ["gcc", "-O2", "-Wall", "-Wextra", "-Werror", "-I", "include", "tests/c_blake2s.c"]
         + ["target/staticlib/libblake2s.a", "-o", PROGRAM],
         cwd=TOP,
         check=True,
@@ -134,7 +134,7 @@ def main():
             print(f"key {len(key)} message {length} output {size}: got {line}, expected {want}")
             return 1
         seen[number] += 1
-    print("c_abi:", ", ".join(f"{seen[a]} answered {a}" for a in ANSWERS))
+    print("c_blake2s:", ", ".join(f"{seen[a]} answered {a}" for a in ANSWERS))
     return 0 if all(seen[a] for a in ANSWERS) else 1
 
 

@@ -1,5 +1,5 @@
 /*
- * Calls the exported hash as any C program would. tests/c_abi.py gives it cases on standard input
+ * Calls the exported hash as any C program would. tests/c_blake2s.py gives it cases on standard input
  * and compares what it prints.
  *
  * A case: key_len, msg_len and out_len, eight bytes each, then the key and, unless msg_len is over
@@ -19,7 +19,7 @@
 static void take(void *to, size_t n)
 {
     if (n != 0 && fread(to, 1, n, stdin) != n) {
-        fprintf(stderr, "c_abi: the input ends inside a case\n");
+        fprintf(stderr, "c_blake2s: the input ends inside a case\n");
         exit(2);
     }
 }
@@ -29,7 +29,7 @@ static uint8_t *zeros(size_t n)
 {
     void *p = mmap(NULL, n, PROT_READ, MAP_PRIVATE | MAP_ANONYMOUS | MAP_NORESERVE, -1, 0);
     if (p == MAP_FAILED) {
-        perror("c_abi: mmap");
+        perror("c_blake2s: mmap");
         exit(2);
     }
     return p;
