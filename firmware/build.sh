@@ -2,7 +2,7 @@
 # Builds the head for riscv32 without a division, an operating system or a C library (RV32IC and Zmmul):
 #
 #   firmware/build.sh                     the proved calls, crate abi, to target/riscv32
-#   firmware/build.sh OUT SOURCE.c...     the same calls in C, to OUT, for bench/firmware.sh
+#   firmware/build.sh OUT SOURCE...       the same calls from other sources, in C or for LLVM (.ll), to OUT, for bench and tests
 #
 # In the folder are then libmastfrap.a, which has the three calls of include/mastfrap.h for a head and what they call; session,
 # which is firmware/head.c on Linux (qemu-riscv32 target/riscv32/session < sample/session.bin); and for each object a file .su,
@@ -35,11 +35,16 @@ proved() {
     objects=("$out/abi.o")
 }
 
-in_c() { # SOURCE.c...
+others() { # SOURCE...
+    local source name
     objects=()
     for source in "$@"; do
-        compile "calls_$(basename "$source" .c)" "${flags_c[@]}" "$source"
-        objects+=("$out/calls_$(basename "$source" .c).o")
+        name=calls_$(basename "${source%.*}")
+        case $source in
+            *.ll) compile "$name" "${flags[@]}" -x ir "$source" ;;
+            *) compile "$name" "${flags_c[@]}" "$source" ;;
+        esac
+        objects+=("$out/$name.o")
     done
 }
 
@@ -53,7 +58,7 @@ link() { # NAME OBJECTS...
 [ -x "$tools/clang" ] || fail "the kit's clang is not at $tools"
 mkdir -p "$out"
 rm -f "$out"/*.o "$out"/*.su "$out"/libmastfrap.a "$out"/session
-if [ $# -eq 0 ]; then proved; else in_c "${@:2}"; fi
+if [ $# -eq 0 ]; then proved; else others "${@:2}"; fi
 compile memory "${flags_c[@]}" -fno-builtin firmware/memory.c
 "$tools/llvm-ar" rcs "$out/libmastfrap.a" "${objects[@]}" "$out/memory.o" || fail "no archive"
 compile head "${flags_c[@]}" firmware/head.c

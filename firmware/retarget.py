@@ -1,5 +1,5 @@
 #!/usr/bin/env python3
-"""Makes an LLVM module of the Rattle compiler, which is for x86-64, one for riscv32: retarget.py < MODULE.ll > OUT.ll
+"""Makes an LLVM module of the Rattle compiler, which is for x86-64, one for riscv32: retarget.py [--test] < MODULE.ll > OUT.ll
 
 The two lines that name the target are replaced, the attributes that only x86-64 has are dropped, and every function is to be small.
 Some functions stay functions, however much is inlined.
@@ -8,7 +8,8 @@ Then each function's pointers get an alignment. The module does not say any, sin
 compiler for riscv32 must take it that a pointer is aligned to nothing, and copies what is behind it byte by byte. An argument
 that is a local variable is aligned as that is, one that is handed on as the parameter was, and any other to nothing. A parameter
 has the least alignment of what any call in the module gives it. That is sound where all calls are known: what C can call, and
-what is mentioned other than by its name in a call, gets none.
+what is mentioned other than by its name in a call, gets none. With --test each function begins with a call of
+mastfrap_test_alignment for each pointer that is said to be aligned, for tests/firmware.py.
 """
 import re
 import sys
@@ -90,6 +91,19 @@ def retargeted(line, known):
     return line.replace(ATTRIBUTES, "optsize")
 
 
+def with_tests(lines):
+    """Each function begins with the tests of its parameters, after the label of its first block."""
+    tests = []
+    for line in lines:
+        yield line
+        if line.startswith("define"):
+            tests = [(p, k) for k, p in re.findall(r"\bptr noundef align (\d+) (%\w+)", line) if k != "1"]
+        elif re.match(r"\w+:$", line):
+            yield from (f"  call void @mastfrap_test_alignment(ptr {p}, i32 {k})" for p, k in tests)
+            tests = []
+    yield "declare void @mastfrap_test_alignment(ptr, i32)\n"
+
+
 def main():
     lines = sys.stdin.read().split("\n")
     if not any(ATTRIBUTES in line for line in lines):
@@ -99,7 +113,8 @@ def main():
         if name not in module.parameters:
             sys.exit(f"retarget: the module has no function {name}, which is not to be inlined")
     known = module.alignments()
-    sys.stdout.write("\n".join(retargeted(line, known) for line in lines))
+    lines = [retargeted(line, known) for line in lines]
+    sys.stdout.write("\n".join(with_tests(lines) if sys.argv[1:] == ["--test"] else lines))
 
 
 if __name__ == "__main__":

@@ -1,7 +1,7 @@
 #!/usr/bin/env python3
 """Holds the head's firmware for riscv32 to head.py: builds it (firmware/build.sh) and plays it, under qemu-riscv32, the items of
 the shed bench with the sample session, and the random sessions of random_sessions.py. Then it is given answers that a head never
-gets, each of which must stop it.
+gets, each of which must stop it; and a build that tests each alignment that firmware/retarget.py infers plays some of them again.
 
     firmware.py [--session PATH]    PATH: a program that is built already, and is played in its place
 
@@ -22,6 +22,8 @@ TOP = Path(__file__).resolve().parent.parent
 EMULATOR = "qemu-riscv32"
 SESSION = TOP / "target" / "riscv32" / "session"
 ANSWERING = TOP / "target" / "tests" / "answering"
+ALIGNED = TOP / "target" / "tests" / "aligned"
+ALIGNED_SESSIONS = 100
 
 CONTINUE, WHOLE = 0, 64
 STOPS = range(20, 27)
@@ -57,14 +59,30 @@ def not_stopped(call, n):
     return f"{call} answers {n}: {what}" if what else None
 
 
+def aligned():
+    """0 if no alignment that the compiler was told is wrong in any of these sessions."""
+    ALIGNED.mkdir(parents=True, exist_ok=True)
+    module = ALIGNED / "tested.ll"
+    with open(SESSION.parent / "x86_64.ll") as before, open(module, "w") as after:
+        subprocess.run([sys.executable, TOP / "firmware" / "retarget.py", "--test"], stdin=before, stdout=after, check=True)
+    build(ALIGNED, module, "tests/aligned.c")
+    program = [EMULATOR, ALIGNED / "session"]
+    for seed in range(ALIGNED_SESSIONS):
+        data = random_sessions.session(seed)[1]
+        if what := random_sessions.wrong(program, data, *random_sessions.headlog(data)):
+            print(f"the build with tests of alignment, seed {seed}: {what}")
+            return 1
+    return 0
+
+
 def main(session):
     if shutil.which(EMULATOR) is None:
         print(f"firmware: NOT RUN, the riscv32 build was not played: there is no {EMULATOR} (Debian: apt-get install qemu-user)")
         return int(os.environ.get("CI") == "true")
-    if session is None:
-        build()
-        session = SESSION
-    return played(session) or stopped() or random_sessions.main([EMULATOR, session])
+    if session is not None:
+        return played(session) or random_sessions.main([EMULATOR, session])
+    build()
+    return played(SESSION) or stopped() or aligned() or random_sessions.main([EMULATOR, SESSION])
 
 
 if __name__ == "__main__":
