@@ -2,7 +2,7 @@
 use Prim.Native.Nat.{ℕ, _+_, _≤_}
 use mathlib.Core.Path.{_≡_, refl, sym, ap, _∙_}
 use mathlib.Core.Bool.{Bool, true, false, not, cond, _&&_}
-use mathlib.Core.List.{List, [], _∷_}
+use mathlib.Core.List.{List, [], _∷_, map}
 use mathlib.Core.Logic.{_⊎_, inl, inr, ⊎-elim}
 use native.Mathlib.Omega.{arith}
 use lib.Dec.{eqb}
@@ -16,8 +16,8 @@ use Rattle.record.specs.Record.{recordAt}
 use Rattle.record.specs.Types.{isType}
 use Rattle.protocol.specs.Commands.{loadIn, isLast}
 use Rattle.protocol.specs.Replies.{nameReply, replyHeader, putIn}
-use Rattle.head.specs.State.{inRange, ended}
-use Rattle.head.specs.Answers.{Report, refused, stopped, started, refusalNumber, stopNumber, reportOf, Gathering, Result, Outcome}
+use Rattle.head.specs.State.{isWhole, inRange, ended}
+use Rattle.head.specs.Answers.{Report, refused, continues, whole, stopped, started, refusalNumber, stopNumber, reportOf, Gathering, Result, Outcome}
 use Rattle.head.specs.Start.{allowed, decided, starting}
 use Rattle.head.specs.Begin.{Flash, beginning}
 use Rattle.head.specs.Gather.{Step, opened, continued, byteStep, withIncoming, afterStep, gathered, gatherRefusal}
@@ -33,12 +33,13 @@ use Rattle.head.specs.declared.Config.{Config}
 use Rattle.head.specs.declared.Incoming.{Incoming}
 use Rattle.head.specs.declared.Progress.{Progress}
 use Rattle.head.specs.declared.State.{State}
-use Rattle.head.proofs.Ranges.{by-test}
-use Rattle.head.proofs.Ways.{by-begin}
+use Rattle.head.proofs.Ranges.{never, by-test}
+use Rattle.head.proofs.Ways.{by-gather, by-begin, by-act}
 use Rattle.head.proofs.Proved.{head-theorems}
-use Rattle.abi.specs.Layout.{memoryOf, stateIn}
-use Rattle.abi.specs.Calls.{answerNumber, startOf, Start, afterGather, gatherCall, beginCall, afterAct, actCall}
-use Rattle.abi.specs.Theorems.{Sized, Example, AbiTheorems}
+use Rattle.session.specs.Session.{Call, gather, act, Entry, reportIn, stateAfter, log}
+use Rattle.abi.specs.Layout.{Memory, holds, memoryOf, stateIn}
+use Rattle.abi.specs.Calls.{answerNumber, startOf, Start, startIn, GatherCall, gatherTold, afterGather, gatherCall, beginTold, afterBegin, beginCall, actTold, afterAct, actCall}
+use Rattle.abi.specs.Theorems.{Sized, Lengths, isRefusal, callsOn, Example, AbiTheorems}
 use Rattle.abi.proofs.RoundTrip.{lengths, back, sized, forth}
 
 -- ---- the numbers
@@ -193,6 +194,91 @@ module _ (s : State) (z : Sized s) where
   unfolding actCall
   acts-as room ram uds reply old = rw (back s z .0, back s z .1)
 
+-- ---- a refused call
+
+neither : {A : Type 0} (t : Bool) → isRefusal (answerNumber (cond t whole continues)) ≡ true → A
+neither true e = never (sym e)
+neither false e = never (sym e)
+
+-- a stop's number is none of a refusal
+stops-with : {A : Type 0} (k n : ℕ) → k ≡ n → isRefusal n ≡ false → isRefusal k ≡ true → A
+stops-with k n e f h = never (sym h ∙ ap isRefusal e ∙ f)
+
+begin-kept : (m : Memory) (bytes udi : List ℕ) (f : Flash) (ram uds : List ℕ) (old : Start) → isRefusal (beginCall m bytes udi f ram uds old .answer) ≡ true
+    → beginCall m bytes udi f ram uds old ≡ beginTold (beginCall m bytes udi f ram uds old .answer) m old ram uds
+unfolding beginCall starting
+begin-kept m bytes udi f ram uds old =
+    by-begin bytes udi f ram uds (λ (x : Result). isRefusal (answerNumber (x .report)) ≡ true → afterBegin x m old ≡ beginTold (answerNumber (x .report)) m old ram uds)
+    (record {
+      refused = λ k e z h. refl;
+      wait = λ l h. never (sym h);
+      unknown = λ l h. never (sym h);
+      unfit = λ l h. never (sym h);
+      start = λ l x g h. never (sym h);
+      fail = λ l x g h. never (sym h);
+    })
+
+module _ (m : Memory) (l : Lengths m) where
+  gather-kept : (b : ℕ) → isRefusal (gatherCall m b .answer) ≡ true → gatherCall m b ≡ gatherTold (gatherCall m b .answer) m
+  unfolding gatherCall
+  gather-kept b = go (holds (m .bytes)) refl
+    where
+      held : holds (m .bytes) ≡ true → Gathering → Type 0
+      held e g = isRefusal (answerNumber (g .report)) ≡ true → afterGather g ≡ gatherTold (answerNumber (g .report)) m
+
+      go : (t : Bool) → holds (m .bytes) ≡ t
+          → isRefusal ((cond t (afterGather (gathered (stateIn m) b)) (gatherTold 1 m)) .answer) ≡ true
+          → cond t (afterGather (gathered (stateIn m) b)) (gatherTold 1 m) ≡ gatherTold ((cond t (afterGather (gathered (stateIn m) b)) (gatherTold 1 m)) .answer) m
+      go false e = λ h. refl
+      go true e =
+          by-gather (stateIn m) b (held e)
+          (record {
+            refused = λ k q z h. ap (gatherTold k) (forth m l e);
+            takes = λ i o v h. neither (isWhole i) h;
+            fails = λ h. never (sym h);
+          })
+
+  module _ (room ram uds : List ℕ) (reply : ℕ) (old : Start) where
+    abbrev Kept : Outcome → Type 0
+    Kept o = isRefusal (answerNumber (o .report)) ≡ true → afterAct o reply old ≡ actTold (answerNumber (o .report)) m reply old room ram uds
+
+    acted-kept : holds (m .bytes) ≡ true → Kept (acted (stateIn m) room ram uds)
+    unfolding starting
+    acted-kept e =
+        by-act (stateIn m) room ram uds Kept
+        (record {
+          refused = λ k q z h. ap (λ (x : Memory). actTold k x reply old room ram uds) (forth m l e);
+          halt = λ k q h. ⊎-elim (λ z. stops-with k 23 z refl h) (λ z. stops-with k 24 z refl h) q;
+          reply = λ r f h. never (sym h);
+          progress = λ r f p ram1 o v w h. never (sym h);
+          start = λ d ram1 w h. never (sym h);
+          fail = λ d ram1 w h. never (sym h);
+        })
+
+    act-kept : isRefusal (actCall m room ram uds reply old .answer) ≡ true
+        → actCall m room ram uds reply old ≡ actTold (actCall m room ram uds reply old .answer) m reply old room ram uds
+    unfolding actCall
+    act-kept = go (holds (m .bytes)) refl
+      where
+        go : (t : Bool) → holds (m .bytes) ≡ t
+            → isRefusal ((cond t (afterAct (acted (stateIn m) room ram uds) reply old) (actTold 1 m reply old room ram uds)) .answer) ≡ true
+            → cond t (afterAct (acted (stateIn m) room ram uds) reply old) (actTold 1 m reply old room ram uds)
+            ≡ actTold ((cond t (afterAct (acted (stateIn m) room ram uds) reply old) (actTold 1 m reply old room ram uds)) .answer) m reply old room ram uds
+        go false e = λ h. refl
+        go true e = acted-kept e
+
+-- ---- calls one after another
+
+lists : (s : State) → Sized s → (calls : List Call)
+    → callsOn (memoryOf s) calls ≡ map (λ (e : Entry). gatherTold (answerNumber (reportIn e)) (memoryOf (stateAfter e))) (log s calls)
+lists s z [] = refl
+lists s z (gather b ∷ cs) = rw (gathers-as s z b) (ap (λ (x : List GatherCall). afterGather (gathered s b) ∷ x) (lists (gathered s b .state) (gathered-sized s z b) cs))
+lists s z (act l ∷ cs) =
+    let o = acted s (l .room) (l .ram) (l .uds) in
+    rw (acts-as s z (l .room) (l .ram) (l .uds) 0 (startIn [] [] []))
+    (ap (λ (x : List GatherCall). gatherTold (answerNumber (o .report)) (memoryOf (o .state)) ∷ x)
+    (lists (o .state) (acted-sized s z (l .room) (l .ram) (l .uds)) cs))
+
 example : Example
 unfolding beginCall gatherCall actCall stateIn memoryOf beginning recordAt gathered gatherRefusal inRange byteStep headerAt headerByte ended acted actRefusal
     word nameReply replyHeader putIn
@@ -205,8 +291,12 @@ abi-theorems =
       back = back;
       forth = λ m l h. (sized m l, forth m l h);
       answers = λ x y e f. head-theorems .answers x y (report x y e f);
+      begin-kept = begin-kept;
+      gather-kept = gather-kept;
+      act-kept = act-kept;
       begins = begun-sized;
       gathers = λ s z b. (gathers-as s z b, gathered-sized s z b);
       acts = λ s z room ram uds reply old. (acts-as s z room ram uds reply old, acted-sized s z room ram uds);
+      lists = lists;
       example = example;
     }

@@ -1,8 +1,9 @@
 -- What is proved of the layout and of the calls for C. The proof is `abi-theorems` in proofs/Proved.antt.
 use Prim.Native.Nat.{ℕ}
 use mathlib.Core.Path.{_≡_}
-use mathlib.Core.Bool.{true}
-use mathlib.Core.List.{List, [], _∷_, _++_}
+use mathlib.Core.Bool.{Bool, true, _&&_, _||_}
+use mathlib.Core.List.{List, [], _∷_, _++_, map}
+use lib.Dec.{eqb, leb}
 use lib.ListN.{length, replicate}
 use Rattle.endian.specs.Lists.{zeros, padded}
 use Rattle.head.specs.Answers.{reportOf}
@@ -11,8 +12,9 @@ use Rattle.head.specs.Gather.{gathered}
 use Rattle.head.specs.Act.{acted}
 use Rattle.head.specs.declared.Answer.{Answer}
 use Rattle.head.specs.declared.State.{State}
+use Rattle.session.specs.Session.{Call, gather, act, Entry, reportIn, stateAfter, log}
 use Rattle.abi.specs.Layout.{Memory, lent, holds, stateIn, memoryOf}
-use Rattle.abi.specs.Calls.{answerNumber, startOf, Start, startIn, gatherTold, afterGather, gatherCall, beginTold, beginCall, actTold, afterAct, actCall}
+use Rattle.abi.specs.Calls.{answerNumber, startOf, Start, startIn, GatherCall, gatherTold, afterGather, gatherCall, beginTold, beginCall, actTold, afterAct, actCall}
 
 -- the arrays have their lengths, as those of every value of the type do
 pub record Sized (s : State) : Type 0 where
@@ -26,6 +28,20 @@ pub record Sized (s : State) : Type 0 where
 pub record Lengths (m : Memory) : Type 0 where
   pub numbers : length (m .numbers) ≡ 3
   pub bytes : length (m .bytes) ≡ 236
+
+-- the numbers of refusals
+abbrev pub isRefusal : ℕ → Bool
+isRefusal k = (leb 1 k && leb k 7) || eqb k 47
+
+-- calls from C one after another, each on the memory that the one before it left: the answer of each, and the memory. Where an acting puts
+-- what it gives makes no difference to them
+abbrev pub callOn : Memory → Call → GatherCall
+callOn m (gather byte) = gatherCall m byte
+callOn m (act l) = let c = actCall m (l .room) (l .ram) (l .uds) 0 (startIn [] [] []) in gatherTold (c .answer) (c .memory)
+
+abbrev pub callsOn : Memory → List Call → List GatherCall
+callsOn m [] = []
+callsOn m (c ∷ cs) = callOn m c ∷ callsOn (callOn m c .memory) cs
 
 -- ---- an example, as literal bytes: the record of type 5 with RESET_SEED, the UDI 1 to 8, two bytes of RAM, and nothing in flash
 
@@ -63,11 +79,22 @@ pub record AbiTheorems : Type 0 where
   pub forth : (m : Memory) → Lengths m → holds (m .bytes) ≡ true → Sized (stateIn m) × (memoryOf (stateIn m) ≡ m)
   -- no two answers have one number, but for starts with another address or size
   pub answers : (x y : Answer) → answerNumber (reportOf x) ≡ answerNumber (reportOf y) → startOf (reportOf x) ≡ startOf (reportOf y) → x ≡ y
-  -- on the memory of a state each call answers what it answers on that state, and leaves the memory of the next state. With `begins`, calls from C
-  -- that follow an accepted begin are those of a session, and what is proved of sessions is proved of them
+  -- a call that answers the number of a refusal leaves everything that it was lent
+  pub begin-kept : (m : Memory) (bytes udi : List ℕ) (f : Flash) (ram uds : List ℕ) (old : Start)
+      → isRefusal (beginCall m bytes udi f ram uds old .answer) ≡ true
+      → beginCall m bytes udi f ram uds old ≡ beginTold (beginCall m bytes udi f ram uds old .answer) m old ram uds
+  pub gather-kept : (m : Memory) → Lengths m → (byte : ℕ) → isRefusal (gatherCall m byte .answer) ≡ true
+      → gatherCall m byte ≡ gatherTold (gatherCall m byte .answer) m
+  pub act-kept : (m : Memory) → Lengths m → (room ram uds : List ℕ) (reply : ℕ) (old : Start)
+      → isRefusal (actCall m room ram uds reply old .answer) ≡ true
+      → actCall m room ram uds reply old ≡ actTold (actCall m room ram uds reply old .answer) m reply old room ram uds
+  -- on the memory of a state each call answers what it answers on that state, and leaves the memory of the next state; a begin gives such a state
   pub begins : (bytes udi : List ℕ) (f : Flash) (ram uds : List ℕ) → length bytes ≡ 256 → length udi ≡ 8 → length (f .builtIn) ≡ 32
       → Sized (beginning bytes udi f ram uds .state)
   pub gathers : (s : State) → Sized s → (byte : ℕ) → (gatherCall (memoryOf s) byte ≡ afterGather (gathered s byte)) × Sized (gathered s byte .state)
   pub acts : (s : State) → Sized s → (room ram uds : List ℕ) (reply : ℕ) (old : Start)
       → (actCall (memoryOf s) room ram uds reply old ≡ afterAct (acted s room ram uds) reply old) × Sized (acted s room ram uds .state)
+  -- so calls from C that follow a begin are the calls of a session, answer by answer and state by state
+  pub lists : (s : State) → Sized s → (calls : List Call)
+      → callsOn (memoryOf s) calls ≡ map (λ (e : Entry). gatherTold (answerNumber (reportIn e)) (memoryOf (stateAfter e))) (log s calls)
   pub example : Example

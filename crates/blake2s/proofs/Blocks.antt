@@ -91,3 +91,7 @@ after-split (suc n) k h t d e l =
       q,
       ← drop-drop (64 * n) 64 d,
     ) (after-split n k g (t + 64) (drop 64 d) e (omega arith))
+
+pub words-length : (x : List ℕ) → length (words x) ≡ 16
+unfolding words
+words-length x = refl

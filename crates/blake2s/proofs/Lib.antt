@@ -1,3 +1,4 @@
+pub mod Loops
 pub mod Blocks
 pub mod Contexts
 pub mod Numbers

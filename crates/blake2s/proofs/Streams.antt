@@ -3,21 +3,24 @@ use mathlib.Core.Path.{_≡_, refl, ap, sym, _∙_}
 use mathlib.Core.Bool.{Bool, true, false, cond, not}
 use mathlib.Core.List.{List, [], _∷_, _++_, append-assoc}
 use Prim.Native.Nat.{ℕ, _+_, _-_, _*_, _/_, _≤_}
-use native.Mathlib.Nat.{zero-add}
+use native.Mathlib.Nat.{zero-add, add-zero}
 use native.Mathlib.Omega.{arith}
 use lib.Dec.{eqb}
 use lib.ListN.{length, drop, length-append, length-drop}
 use lib.Seq.{drop-append-le, take-all}
 use borrow.Author.Tests.{ne-eqb}
 use Rattle.endian.specs.Lists.{padded}
-use Rattle.rfc7693.specs.Rfc7693.{input, blockAt, leading, compressions, compressed, initial, blake2s}
+use Rattle.endian.specs.Endian.{firstBytes}
+use Rattle.rfc7693.specs.Rfc7693.{words, F, input, blockAt, leading, compressions, compressed, initial, blake2s}
+use Rattle.blake2s.specs.Steps.{stateAfter, blockAfter}
 use Rattle.blake2s.specs.Stream.{earlier, total, done, waiting, begun, extended, closed}
 use Rattle.blake2s.specs.declared.Context.{Context}
 use Rattle.endian.proofs.Lists.{foldl-snoc}
+use Rattle.endian.proofs.Words.{bytes-front}
 use Rattle.rfc7693.proofs.Blocks.{length-padded, block-last, block-behind}
 use Rattle.rfc7693.proofs.Calls.{length-input, calls}
 use Rattle.blake2s.proofs.Blocks.{after, after-split}
-use Rattle.blake2s.proofs.Contexts.{last-fits, earlier-sum, total-extended, done-extended, waiting-extended}
+use Rattle.blake2s.proofs.Contexts.{last-fits, earlier-sum, total-extended, done-extended, waiting-extended, extended-state, extended-block, waits-padded}
 
 module _ (c : Context) (long : length (c .block) ≡ 64) (s e : List ℕ) where
   pub in-parts : extended (extended c s) e ≡ extended c (s ++ e)
@@ -97,3 +100,18 @@ module _ (key msg : List ℕ) (nn : ℕ) (fits : length key ≤ 32) where
       let b : padded 64 (drop (64 * n) d) ≡ blockAt d n = sym (block-last d n (last-fits (length d) .1)) in
       let k : compressions key msg ≡ leading n 0 d ++ record { block = blockAt d n; counter = length d; last = true } ∷ [] = calls key msg fits in
       rw (w, t, b, k, foldl-snoc, stream-state, stream-size)
+
+  -- the same from what the parts of the code make; before the message comes the key's block
+  abbrev ahead : ℕ
+  ahead = cond (not (eqb (length key) 0)) 64 0
+
+  pub in-one : nn ≤ 32
+      → firstBytes nn (F (stateAfter (initial (length key) nn) (padded 64 key) (ahead + 0) msg) (words (blockAfter (padded 64 key) (ahead + 0) msg)) (ahead + length msg) true)
+      ≡ blake2s key msg nn
+  unfolding closed begun total
+  in-one small =
+      let c = begun key nn in
+      let h : stateAfter (initial (length key) nn) (padded 64 key) (ahead + 0) msg ≡ extended c msg .h = extended-state c begun-long msg in
+      let b : blockAfter (padded 64 key) (ahead + 0) msg ≡ extended c msg .block = extended-block c begun-long msg in
+      let t : ahead + length msg ≡ total (extended c msg) = rw (total-extended c begun-long msg, add-zero) in
+      rw (h, b, t) (sym (bytes-front nn 32 _ small) ∙ (rw (waits-padded c begun-long msg, stream-size) at streamed))

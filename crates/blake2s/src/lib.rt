@@ -136,8 +136,7 @@ pub fn hash(key: &[u8], msg: &[u8], out: &mut [u8]) -> Answer
     let Answer::Accepted = answer else {
         return answer;
     };
-    let c = stream::extended(stream::begun(key, size), msg);
-    stream::closed(c, out);
+    stream::whole(key, msg, out);
     answer
 }
 

@@ -4,7 +4,7 @@
 ghost use mathlib.Core.Path.{_≡_};
 ghost use Prim.Native.Nat.{_+_, _*_, _%_, _^_, _<_};
 ghost use mathlib.Core.Bool.{cond};
-ghost use lib.ListN.{getD};
+ghost use lib.ListN.{getD, drop};
 ghost use lib.Bits.{bitXor};
 ghost use Rattle.rfc7693.specs.Rfc7693.{sigma, rotr, added, xorRotated, G, selected, rounds, workVector, F};
 ghost use Rattle.compression.specs.Steps.{Places, fourMixings};
@@ -172,31 +172,71 @@ fn diagonal_step(m: &[u32; 16], s: [u8; 16], v: [u32; 16]) -> [u32; 16]
     apart(v4)
 }
 
-// The ten rounds, written out and in halves, which is what LLVM inlines: docs/DECISIONS.md, 15.
-fn rounds(v: [u32; 16], m: &[u32; 16]) -> [u32; 16]
-    ensures { λ r. ⌜ r ≡ rounds (now (m .entry)) sigma v ⌝ }
+// Rounds 0 and 1. The rounds are written out and in halves, which is what LLVM inlines (docs/DECISIONS.md, 15), and two of them are a function
+// of their own, since only what LLVM has inlined shares its place on the stack.
+fn rounds_0_1(v: [u32; 16], m: &[u32; 16]) -> [u32; 16]
+    ensures { λ r. ⌜ rounds (now (m .entry)) (drop 2 sigma) r ≡ rounds (now (m .entry)) (drop 0 sigma) v ⌝ }
 {
     let s = SIGMA;
     let s0 = s[0];
-    let v1 = diagonal_step(m, s0, column_step(m, s0, v));
+    let w = diagonal_step(m, s0, column_step(m, s0, v));
     let s1 = s[1];
-    let v2 = diagonal_step(m, s1, column_step(m, s1, v1));
+    diagonal_step(m, s1, column_step(m, s1, w))
+}
+
+// Rounds 2 and 3.
+fn rounds_2_3(v: [u32; 16], m: &[u32; 16]) -> [u32; 16]
+    ensures { λ r. ⌜ rounds (now (m .entry)) (drop 4 sigma) r ≡ rounds (now (m .entry)) (drop 2 sigma) v ⌝ }
+{
+    let s = SIGMA;
     let s2 = s[2];
-    let v3 = diagonal_step(m, s2, column_step(m, s2, v2));
+    let w = diagonal_step(m, s2, column_step(m, s2, v));
     let s3 = s[3];
-    let v4 = diagonal_step(m, s3, column_step(m, s3, v3));
+    diagonal_step(m, s3, column_step(m, s3, w))
+}
+
+// Rounds 4 and 5.
+fn rounds_4_5(v: [u32; 16], m: &[u32; 16]) -> [u32; 16]
+    ensures { λ r. ⌜ rounds (now (m .entry)) (drop 6 sigma) r ≡ rounds (now (m .entry)) (drop 4 sigma) v ⌝ }
+{
+    let s = SIGMA;
     let s4 = s[4];
-    let v5 = diagonal_step(m, s4, column_step(m, s4, v4));
+    let w = diagonal_step(m, s4, column_step(m, s4, v));
     let s5 = s[5];
-    let v6 = diagonal_step(m, s5, column_step(m, s5, v5));
+    diagonal_step(m, s5, column_step(m, s5, w))
+}
+
+// Rounds 6 and 7.
+fn rounds_6_7(v: [u32; 16], m: &[u32; 16]) -> [u32; 16]
+    ensures { λ r. ⌜ rounds (now (m .entry)) (drop 8 sigma) r ≡ rounds (now (m .entry)) (drop 6 sigma) v ⌝ }
+{
+    let s = SIGMA;
     let s6 = s[6];
-    let v7 = diagonal_step(m, s6, column_step(m, s6, v6));
+    let w = diagonal_step(m, s6, column_step(m, s6, v));
     let s7 = s[7];
-    let v8 = diagonal_step(m, s7, column_step(m, s7, v7));
+    diagonal_step(m, s7, column_step(m, s7, w))
+}
+
+// Rounds 8 and 9.
+fn rounds_8_9(v: [u32; 16], m: &[u32; 16]) -> [u32; 16]
+    ensures { λ r. ⌜ rounds (now (m .entry)) (drop 10 sigma) r ≡ rounds (now (m .entry)) (drop 8 sigma) v ⌝ }
+{
+    let s = SIGMA;
     let s8 = s[8];
-    let v9 = diagonal_step(m, s8, column_step(m, s8, v8));
+    let w = diagonal_step(m, s8, column_step(m, s8, v));
     let s9 = s[9];
-    diagonal_step(m, s9, column_step(m, s9, v9))
+    diagonal_step(m, s9, column_step(m, s9, w))
+}
+
+// The ten rounds.
+fn rounds(v: [u32; 16], m: &[u32; 16]) -> [u32; 16]
+    ensures { λ r. ⌜ r ≡ rounds (now (m .entry)) sigma v ⌝ }
+{
+    let v2 = rounds_0_1(v, m);
+    let v4 = rounds_2_3(v2, m);
+    let v6 = rounds_4_5(v4, m);
+    let v8 = rounds_6_7(v6, m);
+    rounds_8_9(v8, m)
 }
 
 // x, with all bits inverted for the last block.

@@ -1,4 +1,4 @@
--- Arithmetic: the final block of n bytes starts at 64 * earlier n.
+-- Arithmetic: no bytes have no block before the final one.
 use native.Mathlib.Omega.{arith}
 use Rattle.blake2s.specs.Stream.{earlier}
 use borrow.Author.Needs.{needs}
@@ -14,9 +14,9 @@ unfolding earlier
 returns-2 c = omega arith
 
 pub before-final-spec : {M : Type 1} → statement M
-before-final-spec = tie.close
+before-final-spec =
+    tie.close
     (tie.spec
-    (λ c. search needs)
     (λ c. search needs)
     returns
     returns-2)
