@@ -10,12 +10,13 @@
  *
  * Link those whose calls you use: they have no symbol in common, but for the last two.
  *
- * Each call answers the lowest number of its list that applies. A call that answers the number of a
- * refusal has changed nothing that it was lent.
+ * Where several refusals apply, the first of the list below is answered. A call that answers the number
+ * of a refusal has changed nothing that it was lent.
  *
  * The proof takes the caller's word for this much: each pointer is not null, also where its length
- * is 0, is aligned as its type asks and is good for its length, which is below 2^63; and no other thread
- * writes to these bytes meanwhile. Each call says below what must not overlap.
+ * is 0, is aligned as its type asks and is good for its length, which is below 2^63; and nothing else, be
+ * it another thread, an interrupt or a device, reads or writes these bytes meanwhile. Each call says below
+ * what must not overlap.
  */
 #ifndef MASTFRAP_H
 #define MASTFRAP_H
@@ -128,19 +129,19 @@ enum {
 
     MASTFRAP_REFUSED_STATE = 1,         /* the memory holds no state, or one out of its range (gather, act) */
     MASTFRAP_REFUSED_ENDED = 2,         /* the head has started or stopped (gather, act) */
+    MASTFRAP_REFUSED_OUT_OF_TURN = 47,  /* a frame is whole (gather), or none is (act) */
     MASTFRAP_REFUSED_REPLY_ROOM = 3,    /* room_len is under 129 (act) */
     MASTFRAP_REFUSED_RAM_LENGTH = 4,    /* ram_len is not that at begin (act) */
     MASTFRAP_REFUSED_SECRET_LENGTH = 5, /* uds_len is not 8 (begin, act) */
     MASTFRAP_REFUSED_RECORD_LENGTH = 6, /* record_len is not 256 (begin) */
     MASTFRAP_REFUSED_RAM_SIZE = 7,      /* ram_len is 0 or over 131,072 (begin) */
-    MASTFRAP_REFUSED_OUT_OF_TURN = 47,  /* a frame is whole (gather), or none is (act) */
 
     MASTFRAP_STOPPED_TYPE = 20,         /* the record's type is 6 or above (begin) */
     MASTFRAP_STOPPED_HEADER = 22,       /* bit 7 or bit 2 of a header is set (gather) */
     MASTFRAP_STOPPED_COMMAND = 23,      /* the command is not allowed now, or unknown (act) */
     MASTFRAP_STOPPED_BODY_LENGTH = 24,  /* the command has another body length (act) */
     MASTFRAP_STOPPED_DIGEST = 25,       /* the program has not the required digest (begin, act) */
-    MASTFRAP_STOPPED_PROGRAM_SIZE = 26, /* the size of the program in flash is 0, over the slot or over RAM (begin) */
+    MASTFRAP_STOPPED_PROGRAM_SIZE = 26, /* the program in flash has size 0, over the slot or over RAM (begin) */
 
     MASTFRAP_WHOLE = 64,  /* the byte is taken, and with it a frame is whole: act on it (gather) */
     MASTFRAP_STARTED = 65 /* the program at the front of RAM is to run (begin, act) */
@@ -164,8 +165,9 @@ enum {
  *               196 to 203    the UDI
  *               204 to 235    the user secret (USS)
  *
- * Memory with another number in byte 130 or 131 holds no state. docs/STATES.md has the ranges. No memory
- * that begin, gather and act have left is refused with 1.
+ * Memory with another number in byte 130 or 131 holds no state. docs/STATES.md has the ranges. Memory that
+ * a begin has written, which was not refused, and that gather and act alone have changed since, is never
+ * refused with 1.
  */
 #define MASTFRAP_STATE_NUMBERS 3
 #define MASTFRAP_STATE_BYTES 236
@@ -179,6 +181,17 @@ enum {
  * To run a head: begin, with the reset record. While the answer is 0, gather each byte from the cable, and
  * at 64 act on the frame and send the reply. 65 is a start, and every other answer a stop, with the lamp.
  * firmware/head.c does so.
+ *
+ * The reset record has 256 bytes: 0 to 3 the type, 4 to 7 the mask, of which bit 0 is RESET_SEED, both
+ * lowest byte first; 8 to 39 the required digest, 40 to 71 measured_id; the rest is not read.
+ *
+ * The device secret (UDS) is eight words, each four of its bytes, lowest first: where its first byte is
+ * 0x11, the lowest byte of uds[0] is. It is read only at a start, and each word is 0 after it. What a call
+ * leaves on the stack is not cleared: after a start the device secret, the user secret and the CDI can be
+ * found there, so clear it before the program runs.
+ *
+ * The program is at the front of ram, and runs at start[0], which is 0x40000000: ram is what the processor
+ * sees there.
  *
  * More that the proof takes the caller's word for, in all three: each array is good for as many bytes or
  * words as stand in its brackets, and nothing that a call writes overlaps anything else that it is lent.
@@ -212,7 +225,7 @@ uint32_t mastfrap_gather(uint32_t numbers[MASTFRAP_STATE_NUMBERS], uint8_t bytes
  * Acts on the frame that is whole. ram is as long as at begin, and holds what the last call left there.
  *
  * Unless the call is refused, *reply_len says how many bytes at the front of room are a reply, 0 for none,
- * and the rest of room stays; start, cdi, digest and uds are as after begin.
+ * and the rest of room stays; numbers, bytes, start, cdi, digest and uds are written by the rule of begin.
  */
 uint32_t mastfrap_act(uint32_t numbers[MASTFRAP_STATE_NUMBERS], uint8_t bytes[MASTFRAP_STATE_BYTES],
                       uint8_t *room, mastfrap_size room_len, uint8_t *ram, mastfrap_size ram_len,

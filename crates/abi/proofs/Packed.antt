@@ -6,8 +6,7 @@ use native.Mathlib.Omega.{arith}
 use lib.ListN.{length, take, drop, length-append, drop-of-length-le}
 use lib.Seq.{paste, take-at, take-length, drop-append-add, drop-drop}
 use Rattle.head.specs.declared.State.{State}
-use Rattle.abi.specs.Layout.{memoryOf}
-use Rattle.abi.specs.Steps.{smallOf}
+use Rattle.abi.specs.Layout.{smallOf, memoryOf}
 use Rattle.abi.specs.Theorems.{Sized}
 
 -- the part after what is written

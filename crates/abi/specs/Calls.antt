@@ -57,7 +57,7 @@ gatherTold k m = record { answer = k; memory = m }
 abbrev pub afterGather : Gathering → GatherCall
 afterGather g = gatherTold (answerNumber (g .report)) (memoryOf (g .state))
 
--- memory that holds no state is refused with 1
+-- memory that holds no state is refused with 1. Any other refusal hands back the state, whose memory is this one
 unfoldable pub gatherCall : Memory → ℕ → GatherCall
 gatherCall m byte = cond (holds (m .bytes)) (afterGather (gathered (stateIn m) byte)) (gatherTold 1 m)
 

@@ -70,16 +70,15 @@ stateIn m =
           };
     }
 
+-- the four bytes after the body
+abbrev pub smallOf : State → List ℕ
+smallOf s =
+    s .incoming .header ∷ s .incoming .got ∷ phaseNumber (s .progress .phase) ∷ flagsOf (s .config .verify) (s .config .chained) (s .progress .«uss_used») ∷ []
+
 -- the memory of a state
 unfoldable pub memoryOf : State → Memory
 memoryOf s =
-    let i = s .incoming in
-    let c = s .config in
-    let p = s .progress in
     record {
-      numbers = c .«ram_len» ∷ p .size ∷ p .block ∷ [];
-      bytes =
-          i .body
-          ++ (i .header ∷ i .got ∷ phaseNumber (p .phase) ∷ flagsOf (c .verify) (c .chained) (p .«uss_used») ∷ [])
-          ++ c .required ++ c .«measured_id» ++ c .udi ++ p .uss;
+      numbers = s .config .«ram_len» ∷ s .progress .size ∷ s .progress .block ∷ [];
+      bytes = s .incoming .body ++ smallOf s ++ s .config .required ++ s .config .«measured_id» ++ s .config .udi ++ s .progress .uss;
     }
