@@ -1,9 +1,9 @@
 -- Memory that is written from its front to its end.
 use Prim.Native.Nat.{ℕ, _+_}
 use mathlib.Core.Path.{_≡_, refl, ap, _∙_}
-use mathlib.Core.List.{List, [], _∷_, _++_, append-assoc, append-nil}
+use mathlib.Core.List.{List, [], _++_, append-assoc, append-nil}
 use native.Mathlib.Omega.{arith}
-use lib.ListN.{length, take, drop, length-append, drop-of-length-le}
+use lib.ListN.{length, drop, length-append, drop-of-length-le}
 use lib.Seq.{paste, take-at, take-length, drop-append-add, drop-drop}
 use Rattle.head.specs.declared.State.{State}
 use Rattle.abi.specs.Layout.{smallOf, memoryOf}

@@ -8,8 +8,6 @@ use native.Mathlib.Omega.{arith}
 use lib.Dec.{eqb}
 use lib.ListN.{length, take, drop, length-set, length-drop}
 use lib.Seq.{length-take-le}
-use Rattle.endian.specs.Lists.{zeros}
-use Rattle.endian.proofs.Cases.{impossible}
 use Rattle.endian.specs.Endian.{word}
 use Rattle.framing.specs.Header.{Reading, good, stop, headerAt, headerByte}
 use Rattle.record.specs.Record.{recordAt}
@@ -17,7 +15,7 @@ use Rattle.record.specs.Types.{isType}
 use Rattle.protocol.specs.Commands.{loadIn, isLast}
 use Rattle.protocol.specs.Replies.{nameReply, replyHeader, putIn}
 use Rattle.head.specs.State.{isWhole, inRange, ended}
-use Rattle.head.specs.Answers.{Report, refused, continues, whole, stopped, started, refusalNumber, stopNumber, reportOf, Gathering, Result, Outcome}
+use Rattle.head.specs.Answers.{refused, continues, whole, stopped, refusalNumber, stopNumber, reportOf, Gathering, Result, Outcome}
 use Rattle.head.specs.Start.{allowed, decided, starting}
 use Rattle.head.specs.Begin.{Flash, beginning}
 use Rattle.head.specs.Gather.{Step, opened, continued, byteStep, withIncoming, afterStep, gathered, gatherRefusal}

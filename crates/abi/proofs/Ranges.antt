@@ -4,14 +4,13 @@ use mathlib.Core.Path.{_≡_, refl, sym, ap, _∙_}
 use mathlib.Core.Bool.{Bool, true, false, not, cond, _&&_}
 use mathlib.Core.List.{List}
 use native.Mathlib.Omega.{arith}
-use lib.Dec.{eqb, leb, ltb}
+use lib.Dec.{eqb, ltb}
 use lib.ListN.{length, getD}
 use borrow.Author.Tests.{eqb-true, eqb-false, ne-eqb, lt-ltb, le-ltb, lt-leb}
 use Rattle.framing.specs.Header.{Reading, good, stop, headerAt, bodyLen}
 use Rattle.protocol.specs.Commands.{lengthOk}
 use Rattle.head.specs.State.{wholeBy, frameOk, loadOk, progressIn, inRange, live}
 use Rattle.head.specs.Gather.{gatherRefusal, gathered}
-use Rattle.head.specs.declared.Phase.{Phase}
 use Rattle.head.specs.declared.Phase.the-variants.{Waiting, Loading, Started, Stopped}
 use Rattle.head.specs.declared.Progress.{Progress}
 use Rattle.head.proofs.Admitted.{gather-admitted, gather-admitted-as}

@@ -1,17 +1,17 @@
 -- A state's memory holds that state, and memory that holds a state is that state's memory.
-use Prim.Native.Nat.{ℕ, zero, suc, _+_, _*_, _/_, _%_, _≤_, _<_}
-use mathlib.Core.Path.{_≡_, refl, sym, ap, _∙_}
+use Prim.Native.Nat.{ℕ, zero, suc, _+_, _≤_}
+use mathlib.Core.Path.{_≡_, refl, ap, _∙_}
 use mathlib.Core.List.{List, [], _∷_, _++_, append-assoc}
-use mathlib.Core.Bool.{Bool, true, false, cond, _&&_, and-eq-true-iff}
+use mathlib.Core.Bool.{Bool, true, false, and-eq-true-iff}
 use native.Mathlib.Omega.{arith}
-use lib.Dec.{eqb, leb}
+use lib.Dec.{leb}
 use lib.ListN.{length, getD, take, drop, length-append, length-drop}
 use lib.Seq.{getD-append-add, drop-append-add, take-at, take-all, take-add, drop-cons, length-take-le}
-use borrow.Author.Tests.{leb-true, le-leb, eqb-true, eqb-false}
+use borrow.Author.Tests.{leb-true, le-leb}
 use Rattle.head.specs.declared.Phase.{Phase}
 use Rattle.head.specs.declared.Phase.the-variants.{Waiting, Loading, Started, Stopped}
 use Rattle.head.specs.declared.State.{State}
-use Rattle.abi.specs.Layout.{Memory, lent, phaseNumber, phaseOf, bit, flagsOf, flagIn, holds, stateIn, memoryOf}
+use Rattle.abi.specs.Layout.{Memory, lent, phaseNumber, phaseOf, flagsOf, flagIn, holds, stateIn, memoryOf}
 use Rattle.abi.specs.Theorems.{Sized, Lengths}
 
 -- ---- phases and flags

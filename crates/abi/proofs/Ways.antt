@@ -2,21 +2,21 @@
 use Prim.Native.Nat.{ℕ, _+_, _-_, _<_, _≤_}
 use mathlib.Core.Path.{_≡_, refl, sym, ap, _∙_}
 use mathlib.Core.List.{List, _++_}
-use mathlib.Core.Bool.{Bool, true, false, cond, not, _&&_}
+use mathlib.Core.Bool.{Bool, true, false, cond, _&&_}
 use native.Mathlib.Omega.{arith}
 use lib.Dec.{eqb}
-use lib.ListN.{length, getD, drop, take, set}
+use lib.ListN.{length, getD, drop, set}
 use borrow.Author.Tests.{eq-eqb, ne-eqb}
 use Rattle.endian.specs.Lists.{zeros}
 use Rattle.framing.specs.Header.{good, headerAt, clean, inField, frameId, endpoint, bodyLen}
 use Rattle.framing.proofs.Headers.{good-at, bad-at, body-small}
 use Rattle.head.specs.State.{idle, ended}
-use Rattle.head.specs.Answers.{Report, continues, whole}
+use Rattle.head.specs.Answers.{continues, whole}
 use Rattle.head.specs.Gather.{byteStep, afterStep, withIncoming}
 use Rattle.head.specs.declared.Phase.the-variants.{Stopped}
 use Rattle.head.specs.declared.State.{State}
 use Rattle.head.proofs.Ranges.{length-some}
-use Rattle.abi.specs.Layout.{Memory, lent, holds, stateIn, memoryOf}
+use Rattle.abi.specs.Layout.{lent, holds, stateIn, memoryOf}
 use Rattle.abi.specs.Calls.{answerNumber, gatherTold, afterGather}
 use Rattle.abi.specs.Steps.{admitted}
 use Rattle.abi.proofs.Stores.{opened-in, kept-in, passed-in, idle-in, ended-in}

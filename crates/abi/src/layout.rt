@@ -1,7 +1,6 @@
 // The state taken out of lent memory, and put back.
 ghost use mathlib.Core.Path.{_≡_};
-ghost use mathlib.Core.List.{List};
-ghost use Prim.Native.Nat.{ℕ, _+_, _≤_, _<_, _^_};
+ghost use Prim.Native.Nat.{_+_, _≤_, _<_, _^_};
 ghost use lib.ListN.{length, take, drop};
 ghost use lib.Seq.{paste};
 ghost use Rattle.abi.specs.Layout.{lent, holds, stateIn, memoryOf, smallOf, phaseOf, phaseNumber, bit, flagsOf};

@@ -4,8 +4,8 @@ mod gathering;
 mod layout;
 
 ghost use mathlib.Core.Path.{_≡_};
-ghost use mathlib.Core.Bool.{Bool, true, false};
-ghost use Rattle.head.specs.Answers.{Report, reportOf};
+ghost use mathlib.Core.Bool.{true, false};
+ghost use Rattle.head.specs.Answers.{reportOf};
 ghost use Rattle.head.specs.Begin.{flashOf};
 ghost use Rattle.abi.specs.Layout.{lent};
 ghost use Rattle.abi.specs.Calls.{answerNumber, startOf, isRefused, startIn, gatherTold, gatherCall, beginTold, beginCall, actTold, actCall};

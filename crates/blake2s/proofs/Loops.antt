@@ -3,8 +3,8 @@ use mathlib.Core.Path.{_≡_, ap, sym, _∙_}
 use mathlib.Core.List.{List, [], _++_, append-nil}
 use Prim.Native.Nat.{ℕ, _+_, _<_}
 use native.Mathlib.Omega.{arith}
-use lib.ListN.{length, getD, set, take, drop}
-use lib.Seq.{take-all, drop-length, drop-cons, getD-at, length-take-le}
+use lib.ListN.{length, set, take, drop}
+use lib.Seq.{take-all, drop-length}
 use Rattle.endian.specs.Lists.{each}
 use Rattle.endian.proofs.Lists.{length-each, getD-each, copy-more}
 
@@ -18,12 +18,6 @@ module _ (d : List ℕ) (n : ℕ) (f : ℕ → ℕ) where
     made-more i h =
         let k : length (each n f) ≡ n = length-each n f in
         ap (set (made i) i) (sym (getD-each n f 0 i h)) ∙ copy-more d (each n f) i (omega arith) (omega arith)
-
-    -- what no turn has reached is as it was
-    pub not-yet : (i : ℕ) → i < n → getD (made i) i 0 ≡ getD d i 0
-    not-yet i h =
-        let k : length (each n f) ≡ n = length-each n f in
-        rw (drop-cons d i 0 (omega arith)) (getD-at (take i (each n f)) _ _ 0 i (length-take-le i (each n f) (omega arith)))
 
     pub made-all : made n ≡ each n f
     made-all =

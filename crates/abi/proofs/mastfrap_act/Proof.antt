@@ -4,7 +4,6 @@ use mathlib.Core.Bool.{true}
 use native.Mathlib.Omega.{arith}
 use borrow.Author.Tests.{not-true, not-false}
 use borrow.Author.Needs.{needs}
-use lib.ListN.{length}
 use Rattle.abi.specs.Layout.{Memory, lent, holds}
 use Rattle.abi.specs.Theorems.{Lengths}
 use Rattle.abi.specs.Calls.{Start, startIn}

@@ -1,5 +1,5 @@
 -- begin by value; what it gives is put in the lent memory unless it is refused.
-use mathlib.Core.Path.{_≡_, sym, _∙_}
+use mathlib.Core.Path.{sym, _∙_}
 use borrow.Author.Needs.{needs}
 use Rattle.head.specs.Begin.{Flash, flashOf}
 use Rattle.abi.specs.Layout.{Memory, lent}

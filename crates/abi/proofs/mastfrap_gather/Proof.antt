@@ -1,5 +1,5 @@
 -- Refused, between frames, or in one. That the lent arrays have their lengths is told where they are lent as slices.
-use mathlib.Core.Path.{_≡_, sym, _∙_}
+use mathlib.Core.Path.{_≡_, _∙_}
 use lib.ListN.{length}
 use borrow.Author.Needs.{needs}
 use Rattle.abi.proofs.Ranges.{refuses, held, admitted-as, in-frame}

@@ -1,7 +1,6 @@
 -- After i turns the first i bytes are zero.
 use Prim.Native.Nat.{ℕ, _≤_, _-_}
 use lib.ListN.{length, drop, set, replicate, length-set}
-use borrow.Author.Needs.{needs}
 use mathlib.Core.List.{List, _++_}
 use borrow.Author.Fill.{fill-more}
 use native.Mathlib.Omega.{arith}

@@ -1,5 +1,5 @@
 -- The header says whose frame it is, and the tests are those of the definition.
-use Prim.Native.Nat.{ℕ, _≤_}
+use Prim.Native.Nat.{_≤_}
 use native.Mathlib.Omega.{arith}
 use lib.ListN.{getD}
 use Rattle.framing.proofs.Headers.{body-small}

@@ -1,5 +1,4 @@
 -- Each call gives one bit.
-use native.Mathlib.Omega.{arith}
 use borrow.Author.Needs.{needs}
 use Rattle.abi.proofs.layout.flags_of.Statement.{statement}
 use Rattle.abi.proofs.layout.flags_of.Tie as tie

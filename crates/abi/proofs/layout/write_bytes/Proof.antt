@@ -1,8 +1,7 @@
 -- The parts are written from the front to the end.
-use Prim.Native.Nat.{ℕ}
 use mathlib.Core.Path.{_≡_}
 use lib.ListN.{length}
-use borrow.Author.Needs.{needs, length-unmapped}
+use borrow.Author.Needs.{needs}
 use Rattle.abi.specs.Theorems.{Sized}
 use Rattle.abi.proofs.Packed.{packed}
 use Rattle.abi.proofs.layout.write_bytes.Statement.{statement}

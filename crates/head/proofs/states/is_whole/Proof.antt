@@ -1,5 +1,5 @@
 -- The header decides; where it is good, endpoint and count are tested.
-use mathlib.Core.Path.{_≡_, sym, _∙_}
+use mathlib.Core.Path.{sym, _∙_}
 use borrow.Author.Tests.{eq-eqb, ne-eqb, not-true, not-false}
 use borrow.Author.Needs.{needs}
 use Rattle.framing.proofs.Headers.{good-at, bad-at}
