@@ -34,11 +34,11 @@ pub enum Phase {
 
 // The frame that is being gathered, or that is whole and waits to be acted on.
 pub struct Incoming {
-    // Its body, if it is for the firmware.
-    pub body: [u8; 128],
     pub header: u8,
     // How many of its bytes have come, the header among them; 0 between frames.
     pub got: u8,
+    // Its body, if it is for the firmware.
+    pub body: [u8; 128],
 }
 
 // What begin fixed.
