@@ -74,7 +74,8 @@ class Elf:
         if info & 255 in ADDRESSES and target in found:
             raise SystemExit(f"{self.path}: the address of {target} is taken, so that what calls it is not known")
         caller = self.function_at(section, place)
-        if info & 255 in CALLS and target != caller and not target.startswith("."):
+        within = symbol.type == SECTION and target == caller and symbol.value + addend != found[caller].symbol.value
+        if info & 255 in CALLS and not within and not target.startswith("."):  # .L: a label within the caller
             found[caller].calls.add(target)
 
     def function_at(self, section, place):

@@ -20,12 +20,13 @@ from head import headlog
 MOST = {
     "instructions, a gathered byte that is not the last": 70,
     "instructions, acting on a block that is not the last": 6000,
-    "bytes of stack, the deepest call": 3000,
+    "bytes of stack, from main down, without the board's": 3000,
     "bytes of code and constants": 12288,
 }
 BYTE, BLOCK, STACK, CODE = MOST
 
 CALLS = ["mastfrap_begin", "mastfrap_gather", "mastfrap_act"]
+BOARD = ["board", "uart_read", "uart_write", "lamp", "run"]  # of firmware/board.h: what they take is the board's, and counts as 0
 EMULATOR = "qemu-riscv32"
 TRACED = re.compile(rb"Trace .*\[[0-9a-f]+/([0-9a-f]+)/")  # an instruction that was executed, by its address
 
@@ -104,18 +105,22 @@ def instructions(folder):
 
 
 def objects(folder):
-    return [path for path in sorted(folder.glob("*.o")) if path.stem not in ("head", "linux", "linux_riscv32")]
+    """Those of the firmware: firmware/head.c, and what it calls but for the board."""
+    return [path for path in sorted(folder.glob("*.o")) if path.stem not in ("linux", "linux_riscv32")]
 
 
 def frames(folder):
-    """The stack that each function takes, as the compiler says."""
-    found = {}
+    """The stack that each function takes, as the compiler says: also for arguments that it hands on there."""
+    found = dict.fromkeys(BOARD, 0)
     for path in objects(folder):
         for line in path.with_suffix(".su").read_text().splitlines():
             place, size, kind = line.split("\t")
             if kind != "static":
                 sys.exit(f"firmware: {path}: the stack of {place} is {kind}, and no number")
-            found[re.match(r"[^:]*:(?:\d+:)?(.*)", place)[1]] = int(size)
+            name = re.match(r"[^:]*:(?:\d+:)?(.*)", place)[1]
+            if name in found:
+                sys.exit(f"firmware: {folder} has two functions {name}, and a call does not say of which")
+            found[name] = int(size)
     return found
 
 
@@ -123,17 +128,19 @@ def deepest(name, functions, sizes, above=()):
     """The way down from a function that takes the most stack, as names."""
     if name in above:
         sys.exit(f"firmware: {name} calls itself, so that its stack has no most")
+    if name in BOARD:
+        return (name,)
     if name not in functions:
         sys.exit(f"firmware: {above[-1]} calls {name}, which is not in the library")
-    ways = [deepest(callee, functions, sizes, (*above, name)) for callee in functions[name].calls]
+    ways = [deepest(callee, functions, sizes, (*above, name)) for callee in sorted(functions[name].calls)]
     return (name, *max(ways, key=lambda way: sum(sizes[f] for f in way), default=()))
 
 
 def stack(folder):
-    """The deepest way of each call, and its bytes."""
+    """The deepest way from main and from each call, and its bytes."""
     functions = {name: f for path in objects(folder) for name, f in Elf(path).functions().items()}
     sizes = frames(folder)
-    ways = [deepest(call, functions, sizes) for call in CALLS]
+    ways = [deepest(name, functions, sizes) for name in ["main", *CALLS]]
     return [(sum(sizes[f] for f in way), " + ".join(f"{f} {sizes[f]}" for f in way)) for way in ways]
 
 
@@ -162,7 +169,7 @@ def code(elf, folder):
 class Figures:
     def __init__(self, folder):
         self.folder, self.elf, self.ways = folder, linked(folder), stack(folder)
-        self.of = instructions(folder) | {STACK: max(self.ways)[0], CODE: code(self.elf, folder)}
+        self.of = instructions(folder) | {STACK: self.ways[0][0], CODE: code(self.elf, folder)}
 
     def print_more(self):
         print(f"\n{self.folder}: stack along the deepest calls")

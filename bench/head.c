@@ -60,9 +60,10 @@ static int whole(const struct frame *f)
     return for_firmware(f->header) && f->got == length(f->header) + 1;
 }
 
-static uint32_t blocks_for(uint32_t size)
+/* Whether the program has a block of this number: the first test keeps the product within 32 bits. */
+static int has_block(uint32_t size, uint32_t block)
 {
-    return size / 127 + (size % 127 != 0);
+    return block <= RAM_MOST / 127 && 127 * block < size;
 }
 
 /* ---- refused calls */
@@ -73,7 +74,7 @@ static int in_range(const struct numbers *n, const struct frame *f)
         return 0;
     if (f->got == 0 ? f->header != 0 : bad(f->header) || (f->got > length(f->header) && !whole(f)))
         return 0;
-    return f->phase != LOADING || (n->size >= 1 && n->size <= n->ram_len && n->block < blocks_for(n->size));
+    return f->phase != LOADING || (n->size >= 1 && n->size <= n->ram_len && has_block(n->size, n->block));
 }
 
 static uint32_t state_refusal(const struct numbers *n, const struct frame *f, int wants_whole)
@@ -255,7 +256,7 @@ static uint32_t block(struct head *h)
     uint8_t content[33] = {0};
 
     memcpy(h->ram + at, h->f->body + 1, left < 127 ? left : 127);
-    if (++h->n->block < blocks_for(h->n->size))
+    if (has_block(h->n->size, ++h->n->block))
         return reply(h, 0x06, 1, content, 1);
     reference_blake2s(h->ram, h->n->size, content + 1);
     reply(h, 0x07, 3, content, 33);

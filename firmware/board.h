@@ -7,7 +7,7 @@
 
 #include <stdint.h>
 
-/* What the loader is lent. No pointer is null, also where its length is 0, and nothing overlaps. */
+/* What the loader is lent. No pointer is null, also where its length is 0; ram and uds overlap nothing else that is lent. */
 struct board {
     const uint8_t *record;        /* the reset record, 256 bytes */
     const uint8_t *udi;           /* the identity, 8 bytes */
@@ -15,9 +15,9 @@ struct board {
     uint32_t slot_len[2];         /* 0 where there is none */
     uint32_t program_size[2];     /* of the program at the front of each slot; 0 where there is none */
     const uint8_t *built_in;      /* the digest that type 0 requires, 32 bytes */
-    uint8_t *ram;                 /* where programs go to and run, at MASTFRAP's start address, 0x40000000 */
+    uint8_t *ram;                 /* where programs go to and run: what the processor sees at 0x40000000, where they start */
     uint32_t ram_len;             /* 1 to 131,072 */
-    uint32_t *uds;                /* the device secret, eight words, which a start sets to zero */
+    uint32_t *uds;                /* the UDS, eight words of four bytes each, lowest first; a start sets them to zero */
 };
 
 /* Everything that comes before the loader: RAM filled and scrambled, record, UDI and UDS read. Called once. */
@@ -35,7 +35,10 @@ void uart_write(const uint8_t *reply, uint32_t n);
  */
 void lamp(uint32_t why);
 
-/* Hands the CDI to the program, clears the firmware's own memory, in which there is a copy of it, and jumps. */
+/*
+ * Hands the CDI to the program, clears the firmware's own memory and the stack that the calls used, where the device secret, the
+ * user secret and the CDI still are, and jumps.
+ */
 _Noreturn void run(uint32_t address, uint32_t size, const uint8_t cdi[32]);
 
 #endif

@@ -14,7 +14,7 @@ tools=${RATTLE_HOME:-/opt/rattle}/on/$(uname -m)/toolchain/bin
 
 # -inline-threshold: with less, more calls, and what they hand over in memory; with more, code is repeated.
 target=(--target=riscv32-unknown-none-elf -march=rv32ic_zmmul -mabi=ilp32)
-flags=("${target[@]}" -Os -ffunction-sections -fdata-sections -fstack-usage -mllvm -inline-threshold=650)
+flags=("${target[@]}" -Os -ffunction-sections -fdata-sections -fstack-usage -mllvm -inline-threshold=800)
 flags_c=("${flags[@]}" -Wall -Wextra -Werror -nostdinc -isystem firmware/include -I include -I firmware)
 
 fail() {

@@ -15,7 +15,8 @@ static int in_words(uintptr_t place)
     return place % sizeof(word) == 0;
 }
 
-__attribute__((weak)) void *memcpy(void *to, const void *from, size_t n)
+/* Apart from memcpy, since a firmware's own may copy in any order, and memmove needs this one. */
+static void *copy_forward(void *to, const void *from, size_t n)
 {
     uint8_t *t = to;
     const uint8_t *f = from;
@@ -34,6 +35,11 @@ __attribute__((weak)) void *memcpy(void *to, const void *from, size_t n)
     return to;
 }
 
+__attribute__((weak)) void *memcpy(void *to, const void *from, size_t n)
+{
+    return copy_forward(to, from, n);
+}
+
 /* From the front, unless that would write over bytes that are still to be copied. */
 __attribute__((weak)) void *memmove(void *to, const void *from, size_t n)
 {
@@ -41,7 +47,7 @@ __attribute__((weak)) void *memmove(void *to, const void *from, size_t n)
     const uint8_t *f = from;
 
     if ((uintptr_t)t - (uintptr_t)f >= n)
-        return memcpy(to, from, n);
+        return copy_forward(to, from, n);
     while (n-- != 0)
         t[n] = f[n];
     return to;

@@ -5,6 +5,7 @@ every byte that was lent, must be the same, in accepted and refused calls alike.
 
     c_head.py                    builds the static library, and makes all calls
     c_head.py --library PATH     makes them to a shared library, such as one of bench/head.c
+    c_head.py --riscv32 PATH     makes a part of them to a program of tests/calls_riscv32.c, such as tests/firmware.py builds
 """
 import argparse
 import itertools
@@ -16,7 +17,7 @@ from copy import deepcopy
 from pathlib import Path
 
 from head import EMPTY_SLOTS, RAM_MOST, ZEROS, Frame, Head, Slot, blake2s
-from lent import BYTES, NUMBERS, PHASES, ROOM, WORDS, Calls, Difference, Memory
+from lent import BYTES, NUMBERS, PHASES, ROOM, WORDS, Calls, Difference, Library, Memory, Program
 
 TOP = Path(__file__).resolve().parent.parent
 ARCHIVE = TOP / "target" / "staticlib" / "libabi.a"
@@ -37,6 +38,8 @@ RANDOM_BEGINS = 3000
 RANDOM_CALLS = 60000
 RANDOM_MEMORIES = 20000
 RANDOM_LISTS = 200
+EMULATOR = "qemu-riscv32"
+FEWER = 3  # for the emulator, of the lists that take the longest, one in so many
 
 
 def build():
@@ -44,6 +47,11 @@ def build():
     LIBRARY.parent.mkdir(parents=True, exist_ok=True)
     whole = ["-Wl,--whole-archive", ARCHIVE, "-Wl,--no-whole-archive"]
     subprocess.run(["gcc", "-shared", *whole, "-o", LIBRARY], check=True)
+
+
+def some(calls, things):
+    """All of them; for the emulator, which has no far memory, one in so many."""
+    return things if calls.far else itertools.islice(things, 0, None, FEWER)
 
 
 def waiting(**changes):
@@ -161,7 +169,8 @@ def loads(calls):
     session(calls, "unfinished", frame(0x13, load(300)) + frame(0x13, block(0)) + frame(0x13, block(1))[:-1])
     session(calls, "passing over", frame(0x1B, load(50, 1, COUNTING))[:-1])
     late_secret(calls)
-    longest(calls)
+    if calls.far:  # the emulator would be handed all of its RAM at each byte
+        longest(calls)
     for size in [1, 127, 128, 254, 255, 300]:
         session(calls, f"size {size}", frame(0x33, load(size)) + blocks())
     for flag in [0, 1, 2, 255]:
@@ -325,7 +334,7 @@ def begin_loans(calls):
         begin_with(calls, what, record, slots=slots, built_in=right, ram=ram, words=words)
     for words, length in [(0, 256), (8, 0), (0, 0)]:
         begin_with(calls, f"record {length}, words {words}", record_of(4)[:length], words=words)
-    for far in ["record", "ram", "words"]:
+    for far in ["record", "ram", "words"] if calls.far else []:
         begin_with(calls, f"2^32 more of {far}", record_of(4), far=far)
 
 
@@ -339,7 +348,7 @@ def random_slot(rng, ram):
 
 def random_begins(calls):
     rng = random.Random(9)
-    for k in range(RANDOM_BEGINS):
+    for k in some(calls, range(RANDOM_BEGINS)):
         kind, ram = rng.choice([0, 1, 2, 3] * 5 + [4, 5, 6, rng.getrandbits(32)]), rng.choice([RAM, rng.randint(1, RAM)])
         slots = [random_slot(rng, ram) for _ in range(2)]
         digests = [digest_of(slots, kind)] * 4 + [digest_of(slots, kind + 1), rng.randbytes(32)]
@@ -399,10 +408,11 @@ def numbers(calls):
     """Size and block: while waiting any, and while loading near their limits, or such that 127 times the block is over 32 bits."""
     sizes = [0, 1, 127, 128, 254, 255, RAM - 1, RAM, RAM + 1, 2**31, 2**32 - 1]
     wrapping = [2**32 // 127, 2**32 // 127 + 1, 2**32 - 1]
-    for phase, size, k in itertools.product(PHASES, sizes, [0, 1, 2, 3, 1032, 1033, *wrapping]):
+    block_numbers = [0, 1, 2, 3, 1032, 1033, *wrapping]
+    for phase, size, k in itertools.product(PHASES, sizes, block_numbers):
         both(calls, f"{phase}, size {size}, block {k}", last_block(phase=phase, size=size, block=k))
-        if phase == "waiting":
-            any_progress(calls, dict(size=size, block=k))
+    for size, k in some(calls, itertools.product(sizes, block_numbers)):
+        any_progress(calls, dict(size=size, block=k))
 
 
 def any_progress(calls, progress):
@@ -430,7 +440,7 @@ def loans(calls):
     for name, most in [("room", ROOM), ("ram", ALL_RAM), ("words", WORDS)]:
         for n in range(most + 1):
             Session(f"{name} {n}", calls, last_block()).hear(0x01, **{name: n})
-    for name, n in [("room", 128), ("ram", RAM), ("words", 8)]:
+    for name, n in [("room", 128), ("ram", RAM), ("words", 8)] if calls.far else []:
         Session(f"2^32 more of {name}", calls, last_block()).hear(0x01, **{name: n}, far=name)
 
 
@@ -498,7 +508,7 @@ def random_loans(rng, ram):
 
 def random_calls(calls):
     rng = random.Random(7)
-    for k in range(RANDOM_CALLS):
+    for k in some(calls, range(RANDOM_CALLS)):
         head = random_head(rng)
         byte = rng.choice([0x01, 0x03, 0x05, 0x08, 0x10, 0xAA, rng.randrange(256)])
         loans = random_loans(rng, head.ram)
@@ -549,7 +559,7 @@ def on_any(rng, calls, what):
 
 def random_memories(calls):
     rng = random.Random(6)
-    for k in range(RANDOM_MEMORIES):
+    for k in some(calls, range(RANDOM_MEMORIES)):
         on_any(rng, calls, f"memory {k}")
 
 
@@ -594,7 +604,7 @@ def in_any_order(rng, s, data):
 
 def random_lists(calls):
     rng = random.Random(8)
-    for k in range(RANDOM_LISTS):
+    for k in some(calls, range(RANDOM_LISTS)):
         size, kind, mask = rng.choice([1, 127, 128, 254, 255, 300]), rng.choice([4, 5]), rng.choice([0, 1])
         required = rng.choice([blake2s(PROGRAM[:size])] * 3 + [rng.randbytes(32)])
         record = struct.pack("<II32s216s", kind, mask, required, rng.randbytes(216))
@@ -625,13 +635,12 @@ PARTS = {begins: "", loads: "", digests: "", stops: "", refusals: "", random_beg
 PARTS |= {random_memories: "on any memory", random_lists: "in lists"}
 
 
-def main(library):
-    if library is None:
-        build()
-    calls = Calls(library or LIBRARY)
+def main(made):
+    calls = Calls(made)
     for part, group in PARTS.items():
         calls.group = group
         part(calls)
+    made.end()
     seen = calls.seen
     print(f"c_head: {sum(seen[call, k] for call in ('begin', 'gather', 'act') for k in KINDS[call])} calls")
     for name, kinds in KINDS.items():
@@ -645,7 +654,11 @@ def main(library):
 if __name__ == "__main__":
     parser = argparse.ArgumentParser(description=__doc__, formatter_class=argparse.RawDescriptionHelpFormatter)
     parser.add_argument("--library", type=Path)
+    parser.add_argument("--riscv32", type=Path)
+    args = parser.parse_args()
     try:
-        sys.exit(main(parser.parse_args().library))
+        if args.library is args.riscv32 is None:
+            build()
+        sys.exit(main(Program([EMULATOR, args.riscv32]) if args.riscv32 else Library(args.library or LIBRARY)))
     except (Difference, OSError, subprocess.CalledProcessError) as why:
         sys.exit(f"c_head: {why}")

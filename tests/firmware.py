@@ -1,7 +1,8 @@
 #!/usr/bin/env python3
 """Holds the head's firmware for riscv32 to head.py: builds it (firmware/build.sh) and plays it, under qemu-riscv32, the items of
 the shed bench with the sample session, and the random sessions of random_sessions.py. Then it is given answers that a head never
-gets, each of which must stop it; and a build that tests each alignment that firmware/retarget.py infers plays some of them again.
+gets, each of which must stop it. And a build that tests each alignment that firmware/retarget.py infers is made the calls of
+c_head.py, with everything lent at all places within a word that are good for it.
 
     firmware.py [--session PATH]    PATH: a program that is built already, and is played in its place
 
@@ -9,26 +10,30 @@ Without qemu-riscv32, of Debian's package qemu-user, nothing is played: a failur
 """
 import argparse
 import os
+import platform
 import shutil
+import struct
 import subprocess
 import sys
 from pathlib import Path
 
+import c_head
 import items
 import random_sessions
 from head import PREFIX
+from lent import Difference, Program
 
 TOP = Path(__file__).resolve().parent.parent
 EMULATOR = "qemu-riscv32"
 SESSION = TOP / "target" / "riscv32" / "session"
 ANSWERING = TOP / "target" / "tests" / "answering"
 ALIGNED = TOP / "target" / "tests" / "aligned"
-ALIGNED_SESSIONS = 100
 
-CONTINUE, WHOLE = 0, 64
+CONTINUE, WHOLE, STARTED = 0, 64, 65
 STOPS = range(20, 27)
-NEVER = [*range(1, 8), 47, 48, 63, 66, 255]  # answers that a firmware which makes the calls in turn does not get
-FROM = {"begin": 0, "gather": 1, "act": 2}  # the byte of the record that each answers in tests/answering.c
+LEADS_ON = {"begin": [CONTINUE, STARTED], "gather": [CONTINUE, WHOLE], "act": [CONTINUE, STARTED]}
+ANSWERS = [*range(8), *STOPS, 47, 48, 63, 64, 65, 66, 255, 256, 256 + WHOLE, 256 + STARTED, 2**32 - 1]
+REPLY_BYTES = 5
 
 
 def build(*words):
@@ -41,38 +46,46 @@ def played(session):
 
 
 def stopped():
-    """0 if every such answer, and every stop, stops the head at once, with its number."""
+    """0 if every answer that does not lead on from its call stops the head at once, with its number, and nothing is sent."""
     build(ANSWERING, "tests/answering.c")
-    wrong = [what for call in FROM for n in [*NEVER, *STOPS] if (what := not_stopped(call, n))]
+    wrong = [what for call in LEADS_ON for n in ANSWERS if n not in LEADS_ON[call] and (what := not_stopped(call, n))]
     for what in wrong:
         print(what)
     return int(bool(wrong))
 
 
 def not_stopped(call, n):
-    """What is wrong where a call gives this answer, and those before it the ones that lead to it."""
-    place = FROM[call]
-    answers = bytes([*[CONTINUE, WHOLE][:place], n])
-    data = answers.ljust(PREFIX, b"\0") + b"\x10\x01"
-    wanted = f"{'F' if n in STOPS else 'E'} {n}"
-    what = random_sessions.wrong([EMULATOR, ANSWERING / "session"], data, [wanted], PREFIX + min(place, 1))
+    """What is wrong where a call gives this answer, and those before it the ones that lead to it: for act, one with a reply."""
+    words, replies, read = {
+        "begin": ([n], [], 0),
+        "gather": ([CONTINUE, n], [], 1),
+        "act": ([CONTINUE, WHOLE, CONTINUE, REPLY_BYTES, n, 0], ["R " + "00" * REPLY_BYTES], 2),
+    }[call]
+    data = struct.pack(f"<{len(words)}I", *words).ljust(PREFIX, b"\0") + b"\x10\x01\x10"
+    lines = [*replies, f"{'F' if n in STOPS else 'E'} {n}"]
+    what = random_sessions.wrong([EMULATOR, ANSWERING / "session"], data, lines, PREFIX + read)
     return f"{call} answers {n}: {what}" if what else None
 
 
-def aligned():
-    """0 if no alignment that the compiler was told is wrong in any of these sessions."""
+def build_tested():
+    """Builds tests/calls_riscv32.c with tests of each alignment that the compiler was told."""
     ALIGNED.mkdir(parents=True, exist_ok=True)
-    module = ALIGNED / "tested.ll"
+    module, program = ALIGNED / "tested.ll", ALIGNED / "calls"
     with open(SESSION.parent / "x86_64.ll") as before, open(module, "w") as after:
         subprocess.run([sys.executable, TOP / "firmware" / "retarget.py", "--test"], stdin=before, stdout=after, check=True)
-    build(ALIGNED, module, "tests/aligned.c")
-    program = [EMULATOR, ALIGNED / "session"]
-    for seed in range(ALIGNED_SESSIONS):
-        data = random_sessions.session(seed)[1]
-        if what := random_sessions.wrong(program, data, *random_sessions.headlog(data)):
-            print(f"the build with tests of alignment, seed {seed}: {what}")
-            return 1
-    return 0
+    if (tests := module.read_text().count("call void @mastfrap_test_alignment(")) == 0:
+        raise Difference("retarget.py --test put no test of an alignment into the module")
+    build(ALIGNED, module, "tests/aligned.c", "tests/calls_riscv32.c")
+    linker = Path(os.environ.get("RATTLE_HOME", "/opt/rattle")) / "on" / platform.machine() / "toolchain" / "bin" / "ld.lld"
+    parts = [ALIGNED / name for name in ("linux_riscv32.o", "calls_calls_riscv32.o", "libmastfrap.a")]
+    subprocess.run([linker, "--gc-sections", *parts, "-o", program], check=True)
+    print(f"firmware: {tests} pointers whose alignment is tested at each call")
+    return program
+
+
+def called():
+    """0 if each call answers and leaves what it must, and no alignment that the compiler was told is wrong."""
+    return c_head.main(Program([EMULATOR, build_tested()]))
 
 
 def main(session):
@@ -82,7 +95,7 @@ def main(session):
     if session is not None:
         return played(session) or random_sessions.main([EMULATOR, session])
     build()
-    return played(SESSION) or stopped() or aligned() or random_sessions.main([EMULATOR, SESSION])
+    return played(SESSION) or stopped() or called() or random_sessions.main([EMULATOR, SESSION])
 
 
 if __name__ == "__main__":
@@ -90,5 +103,5 @@ if __name__ == "__main__":
     parser.add_argument("--session", type=Path)
     try:
         sys.exit(main(parser.parse_args().session))
-    except (OSError, subprocess.CalledProcessError) as why:
+    except (Difference, OSError, subprocess.CalledProcessError) as why:
         sys.exit(f"firmware: {why}")

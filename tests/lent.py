@@ -4,12 +4,18 @@ A `Memory` has all that gather and act are lent, in one array with guard bytes a
 follows from what it finds there: the state is read from the memory by the layout in include/mastfrap.h, head.py plays the call,
 and the next state goes back by the layout. A call that is refused must leave all of it, and one that is not must write every part
 that it gives.
+
+The calls are those of a library for this machine (`Library`), or of a program for another (`Program`).
 """
 import ctypes
 import mmap
+import random
 import struct
+import subprocess
+import threading
 from collections import Counter
 from functools import lru_cache
+from typing import NamedTuple
 
 from head import ADDRESS, Answer, Frame, Head, begin
 
@@ -19,6 +25,10 @@ SPARE = 8  # guard bytes, at least, on either side of a part
 GUARD, STALE = b"\xa5", b"\x99"  # what is in them, and in what a call gives before it
 MAP_NORESERVE = 0x4000  # of Linux; python 3.11 has no name for it
 PHASES = ["waiting", "loading", "started", "stopped"]
+NAMES = ["begin", "gather", "act"]
+MOST_ARGUMENTS = 19
+ASKED = f"<2I{MOST_ARGUMENTS}Q"  # struct asked of tests/calls_riscv32.c
+SECONDS = 300  # for all calls of a program
 STATE = "128s4B32s32s8s32s"  # body; header, got, phase, flags; required digest, measured_id, UDI, USS
 
 
@@ -75,22 +85,36 @@ def answer_number(answer):
 # ---- memory
 
 
+def to_word(n):
+    return (n + 3) // 4 * 4
+
+
 @lru_cache
-def places(parts):
-    """Where each part of an array goes, guard bytes between: words at a place that is good for them, bytes at one that is not."""
+def places(parts, turn):
+    """Where each part of an array goes, guard bytes between: words at a place that is good for them, bytes at any in a word, by
+    turns."""
     found, end = {}, 0
-    for name, size, of_words in parts:
-        at = (end + SPARE + 3) // 4 * 4 + (0 if of_words else 1)
+    for k, (name, size, of_words) in enumerate(parts):
+        at = to_word(end + SPARE) + (0 if of_words else (k + turn) % 4)
         found[name] = slice(at, at + size)
         end = at + size
-    return found, end + SPARE
+    return found, to_word(end + SPARE)
+
+
+class Place(NamedTuple):
+    """A pointer to what is so far into an array."""
+
+    array: object
+    at: int
 
 
 class Array:
     """Named parts of one piece of memory."""
 
+    rng = random.Random(5)
+
     def __init__(self, parts):
-        self.at, size = places(parts)
+        self.at, size = places(parts, self.rng.randrange(4))
         self.data = bytearray(GUARD * size)
         self.held = (ctypes.c_char * size).from_buffer(self.data)
         self.base = ctypes.addressof(self.held)
@@ -104,7 +128,7 @@ class Array:
         self.data[start : start + len(value)] = value
 
     def pointer(self, name):
-        return self.base + self.at[name].start
+        return Place(self, self.at[name].start)
 
     def difference(self, wanted):
         """The first part that is not as wanted, or the guard bytes."""
@@ -184,7 +208,7 @@ class Far:
         flags = mmap.MAP_PRIVATE | mmap.MAP_ANONYMOUS | MAP_NORESERVE
         self.area = mmap.mmap(-1, 4 * self.MORE + mmap.PAGESIZE, flags=flags, prot=mmap.PROT_READ | mmap.PROT_WRITE)
         self.held = ctypes.c_char.from_buffer(self.area)
-        self.pointer = ctypes.addressof(self.held)
+        self.base = ctypes.addressof(self.held)
 
     def take(self, what, wanted):
         """Clears the front, which must hold this much and zeros."""
@@ -197,34 +221,86 @@ class Far:
 # ---- calls
 
 
-class Calls:
-    """The C calls of a library. Each is made, and held to head.py; the first difference ends the test.
-
-    Numbers say how much is lent of RAM, words and room; far names the loan that is elsewhere and longer by 2^32, if any is."""
+class Library:
+    """The calls of a shared library."""
 
     def __init__(self, path):
         library = ctypes.CDLL(str(path))
         pointer, size = ctypes.c_void_p, ctypes.c_uint64
         lent, slot, ends = [pointer, size], [pointer, size, size], [pointer] * 3
-        self.c_begin = library.mastfrap_begin
-        self.c_begin.argtypes = [pointer, pointer, *lent, pointer, *slot, *slot, pointer, *lent, *lent, *ends]
-        self.c_gather = library.mastfrap_gather
-        self.c_gather.argtypes = [pointer, pointer, ctypes.c_uint8]
-        self.c_act = library.mastfrap_act
-        self.c_act.argtypes = [pointer, pointer, *lent, *lent, *lent, pointer, *ends]
-        for call in (self.c_begin, self.c_gather, self.c_act):
+        self.calls = {name: library[f"mastfrap_{name}"] for name in NAMES}
+        self.calls["begin"].argtypes = [pointer, pointer, *lent, pointer, *slot, *slot, pointer, *lent, *lent, *ends]
+        self.calls["gather"].argtypes = [pointer, pointer, ctypes.c_uint8]
+        self.calls["act"].argtypes = [pointer, pointer, *lent, *lent, *lent, pointer, *ends]
+        for call in self.calls.values():
             call.restype = ctypes.c_uint32
         self.far = Far()
+
+    def make(self, name, arguments):
+        return self.calls[name](*(a.array.base + a.at if isinstance(a, Place) else a for a in arguments))
+
+    def end(self):
+        pass
+
+
+class Program:
+    """The calls of tests/calls_riscv32.c, which gets each with all memory that is lent to it, and gives the memory back."""
+
+    far = None  # it has not the memory
+
+    def __init__(self, command):
+        self.process = subprocess.Popen(command, stdin=subprocess.PIPE, stdout=subprocess.PIPE)
+        self.limit = threading.Timer(SECONDS, self.process.kill)
+        self.limit.daemon = True
+        self.limit.start()
+
+    def make(self, name, arguments):
+        memory, begun = bytearray(), {}
+        for a in arguments:
+            if isinstance(a, Place) and id(a.array) not in begun:
+                begun[id(a.array)] = len(memory), a.array
+                memory += a.array.data
+        numbers = [begun[id(a.array)][0] + a.at if isinstance(a, Place) else a for a in arguments]
+        asked = struct.pack(ASKED, NAMES.index(name), len(memory), *numbers, *[0] * (MOST_ARGUMENTS - len(numbers)))
+        self.process.stdin.write(asked + memory)
+        self.process.stdin.flush()
+        given = self.process.stdout.read(4 + len(memory))
+        if len(given) < 4 + len(memory):
+            raise EOFError(f"the program ended with status {self.process.wait()}")
+        for start, array in begun.values():
+            array.data[:] = given[4 + start : 4 + start + len(array.data)]
+        return int.from_bytes(given[:4], "little")
+
+    def end(self):
+        """It must end as its input does."""
+        self.process.stdin.close()
+        more, status = self.process.stdout.read(), self.process.wait()
+        self.limit.cancel()
+        if more or status:
+            raise Difference(f"after the last call {len(more)} bytes came, and the program ended with status {status}")
+
+
+class Calls:
+    """Each call is made, and held to head.py; the first difference ends the test.
+
+    Numbers say how much is lent of RAM, words and room; far names the loan that is elsewhere and longer by 2^32, if any is."""
+
+    def __init__(self, made):
+        self.made = made
+        self.far = made.far
         self.seen = Counter()
         self.group = ""
 
-    def hold(self, what, call, memory, answer, parts, made):
+    def hold(self, what, call, memory, answer, parts, arguments):
         """Makes a call, and compares it; parts are what it must write."""
         wanted = bytearray(memory.data)
         for name, value in parts.items():
             start = memory.at[name].start
             wanted[start : start + len(value)] = value
-        number = made()
+        try:
+            number = self.made.make(call, arguments)
+        except EOFError as why:
+            raise Difference(f"{what}, {call}: {why}")
         if number != answer_number(answer):
             raise Difference(f"{what}, {call}: answered {number}, expected {answer_number(answer)}")
         if memory.data != wanted:
@@ -238,7 +314,7 @@ class Calls:
 
     def lend(self, array, far, name, n):
         """A loan as the arguments of a call."""
-        return (self.far.pointer, n + Far.MORE) if name == far else (array.pointer(name), n)
+        return (Place(self.far, 0), n + Far.MORE) if name == far else (array.pointer(name), n)
 
     def begin(self, what, memory, record, udi, slots, built_in, ram, words, far=None):
         memory.make_stale()
@@ -252,7 +328,7 @@ class Calls:
         call = [m("numbers"), m("bytes"), *self.lend(array, far, "record", len(record)), r("udi")]
         call += [x for k in (0, 1) for x in (r(f"slot{k}"), len(slots[k].flash), slots[k].size)]
         call += [r("built_in"), *self.lend(memory, far, "ram", ram), *self.lend(memory, far, "words", words), *map(m, STARTING)]
-        self.hold(what, "begin", memory, answer, parts, lambda: self.c_begin(*call))
+        self.hold(what, "begin", memory, answer, parts, call)
         if far:
             self.far.take(what, lent[far].front)
         if array.data != before:
@@ -263,7 +339,7 @@ class Calls:
         head, m = memory.head(), memory.pointer
         answer = head.gather(byte) if head else Answer("X", 1)
         parts = {} if answer.kind == "X" else state_parts(head)
-        return self.hold(what, "gather", memory, answer, parts, lambda: self.c_gather(m("numbers"), m("bytes"), byte))
+        return self.hold(what, "gather", memory, answer, parts, [m("numbers"), m("bytes"), byte])
 
     def act(self, what, memory, room, ram, words, far=None):
         memory.make_stale()
@@ -276,7 +352,7 @@ class Calls:
         lengths = {"room": room, "ram": ram, "words": words}
         loans = [x for name, n in lengths.items() for x in self.lend(memory, far, name, n)]
         call = [m("numbers"), m("bytes"), *loans, m("reply_len"), *map(m, STARTING)]
-        self.hold(what, "act", memory, answer, parts, lambda: self.c_act(*call))
+        self.hold(what, "act", memory, answer, parts, call)
         if far:
             self.far.take(what, lent[far].front)
         return answer
