@@ -26,10 +26,13 @@ compile() { # NAME WORDS...
     "$tools/clang" -c -o "$out/$1.o" "${@:2}" || fail "$1 does not compile"
 }
 
-# The proved crate, as an object.
+# The proved crate, as an object. The kit proves it again to make its module, so that is kept until the crate changes.
 proved() {
     rt check abi > "$out/log" 2>&1 || fail "abi is not proved: $(tail -n 1 "$out/log")"
-    firmware/module.sh abi "$out/x86_64.ll" || fail "there is no module of abi"
+    if [ ! "$out/x86_64.ll" -nt target/rlib/abi.rlib ]; then
+        firmware/module.sh abi "$out/new.ll" || fail "there is no module of abi"
+        mv "$out/new.ll" "$out/x86_64.ll"
+    fi
     python3 firmware/retarget.py < "$out/x86_64.ll" > "$out/abi.ll" || fail "the module of abi cannot be made one for riscv32"
     compile abi "${flags[@]}" -x ir "$out/abi.ll"
     objects=("$out/abi.o")
