@@ -1,10 +1,14 @@
 // What a whole frame asks for: document 01, the table of commands.
 ghost use mathlib.Core.Path.{_≡_};
-ghost use Rattle.head.specs.Act.{requestWaiting, requestLoading, requestIn, requestOf};
-ghost use Rattle.head.specs.Steps.{requestFor};
+ghost use Rattle.head.specs.Act.{requestWaiting, requestLoading, requestIn, requestOf, loaded};
+ghost use Rattle.head.specs.Steps.{requestFor, frameOf};
 use super::Action;
+use super::Incoming;
 use super::Phase;
+use super::Progress;
 use super::State;
+use protocol::Frame;
+use protocol::Load;
 
 // A command while waiting, by its number and its body's length.
 fn action_waiting(command: u8, len: u8) -> Action
@@ -67,4 +71,29 @@ pub fn decide(s: State) -> Action
     let i = s.incoming;
     let body = i.body;
     action_in(phase, body[0], framing::body_len(i.header))
+}
+
+// The frame that was gathered.
+pub fn frame_of(i: Incoming) -> Frame
+    ensures { λ r. ⌜ r ≡ frameOf i ⌝ }
+{
+    let body = i.body;
+    Frame {
+        header: i.header,
+        body,
+    }
+}
+
+// The progress after a load that is taken.
+pub fn loaded(l: Load) -> Progress
+    ensures { λ r. ⌜ r ≡ loaded l ⌝ }
+{
+    let uss = l.uss;
+    Progress {
+        phase: Phase::Loading,
+        size: l.size,
+        block: 0,
+        uss_used: protocol::uses_uss(l),
+        uss,
+    }
 }

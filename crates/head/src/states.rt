@@ -1,14 +1,16 @@
 // The state: the range of each field (docs/STATES.md), and what it is after a start or a stop; the tests of a program's digest and size.
 ghost use mathlib.Core.Path.{_≡_};
 ghost use Rattle.framing.specs.Header.{headerAt};
+ghost use Rattle.record.specs.Record.{recordOf};
 ghost use Rattle.head.specs.Start.{allowed};
-ghost use Rattle.head.specs.Begin.{fits};
+ghost use Rattle.head.specs.Begin.{fits, configOf};
 ghost use Rattle.head.specs.State.{wholeBy, frameOk, loadOk, progressOk, inRange, live, idle, ofSize, ended};
 use super::Config;
 use super::Incoming;
 use super::Phase;
 use super::Progress;
 use super::State;
+use record::Record;
 
 // Whether a frame for the firmware is whole: its header, and how many of its bytes have come.
 pub fn is_whole(header: u8, got: u8) -> bool
@@ -153,4 +155,20 @@ pub fn fits(size: usize, slot: usize, ram: usize) -> bool
         return false;
     }
     size <= ram
+}
+
+// What a session goes by.
+pub fn config_of(r: Record, udi: [u8; 8], built_in: [u8; 32], ram_len: usize) -> Config
+    ensures { λ c. ⌜ c ≡ configOf (recordOf r) udi «built_in» «ram_len» ⌝ }
+{
+    let reset_type = r.reset_type;
+    let measured_id = r.measured_id;
+    Config {
+        ram_len,
+        verify: record::verifies(reset_type),
+        required: record::required(r, built_in),
+        chained: r.reset_seed,
+        measured_id,
+        udi,
+    }
 }

@@ -13,7 +13,8 @@ use Rattle.protocol.specs.declared.Reply.{Reply}
 use Rattle.head.specs.Answers.{refusalNumber, Result, resultOf, replied, outcome}
 use Rattle.head.specs.Start.{decided}
 use Rattle.head.specs.Act.{frameIn, loadOf, takes, loaded, loadAnswer, afterLoad, storedIn, nextBlock, between, finishedWith, finished, actedBlock, actRefusal, acted}
-use Rattle.loader.specs.Steps.{plainly, Replies, frameOf}
+use Rattle.head.specs.Steps.{frameOf}
+use Rattle.loader.specs.Steps.{plainly, Replies}
 use Rattle.head.specs.declared.Refusal.{Refusal}
 use Rattle.head.specs.declared.Answer.the-variants.{Refused}
 use Rattle.head.specs.declared.Progress.{Progress}

@@ -3,10 +3,8 @@ use Prim.Native.Nat.{ℕ, _+_}
 use mathlib.Core.Path.{_≡_}
 use mathlib.Core.List.{List}
 use Rattle.protocol.specs.Replies.{sent, putIn}
-use Rattle.protocol.specs.declared.Frame.{Frame}
 use Rattle.protocol.specs.declared.Reply.{Reply}
 use Rattle.endian.specs.Lists.{zeros}
-use Rattle.head.specs.declared.Incoming.{Incoming}
 use Rattle.head.specs.declared.State.{State}
 use Rattle.head.specs.declared.Answer.{Answer}
 use Rattle.head.specs.declared.Answer.the-variants.{Continue}
@@ -19,6 +17,3 @@ plainly a n s = record { answer = a; reply = n; state = s; cdi = zeros 32; diges
 -- after the call the session goes on in state s, and the room has the reply q
 abbrev pub Replies : Acted → Reply → State → List ℕ → List ℕ → Type 0
 Replies x q s room after = (x ≡ plainly Continue (q .len + 1) s) × (after ≡ putIn room (sent q))
-
-abbrev pub frameOf : Incoming → Frame
-frameOf i = record { header = i .header; body = i .body }

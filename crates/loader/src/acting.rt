@@ -8,19 +8,16 @@ ghost use Rattle.protocol.specs.Commands.{longest};
 ghost use Rattle.protocol.specs.Replies.{nameReply, udiReply};
 ghost use Rattle.head.specs.State.{progressOk, loadingOk, ended};
 ghost use Rattle.head.specs.Answers.{resultOf, replied, outcome};
-ghost use Rattle.head.specs.Act.{between, loaded, afterLoad, loadAnswer, nextBlock, finished, actedBlock, requestOf, performed};
-ghost use Rattle.loader.specs.Steps.{plainly, Replies, frameOf};
+ghost use Rattle.head.specs.Act.{between, afterLoad, loadAnswer, nextBlock, finished, actedBlock, requestOf, performed};
+ghost use Rattle.loader.specs.Steps.{plainly, Replies};
 use head::Acted;
 use head::Action;
 use head::Answer;
 use head::Begun;
-use head::Incoming;
 use head::Phase;
 use head::Progress;
 use head::State;
 use head::Stop;
-use protocol::Frame;
-use protocol::Load;
 use protocol::Reply;
 
 // An answer with neither CDI nor digest.
@@ -45,17 +42,6 @@ fn stop(why: Stop, s: State) -> Acted
         0,
         head::ended(Phase::Stopped, s.config.ram_len),
     )
-}
-
-// The frame that was gathered.
-fn frame(i: Incoming) -> Frame
-    ensures { λ r. ⌜ r ≡ frameOf i ⌝ }
-{
-    let body = i.body;
-    Frame {
-        header: i.header,
-        body,
-    }
 }
 
 // A reply, after which the session goes on.
@@ -95,20 +81,6 @@ fn answer_udi(s: State, room: &mut [u8]) -> Acted
     answer(s, p, protocol::udi_reply(s.incoming.header, udi), room)
 }
 
-// The progress after a load that is taken.
-fn loaded(l: Load) -> Progress
-    ensures { λ r. ⌜ r ≡ loaded l ⌝ }
-{
-    let uss = l.uss;
-    Progress {
-        phase: Phase::Loading,
-        size: l.size,
-        block: 0,
-        uss_used: protocol::uses_uss(l),
-        uss,
-    }
-}
-
 // A load: one that is not taken changes nothing.
 fn act_load(s: State, room: &mut [u8]) -> Acted
     requires { ⌜ 129 ≤ length (now room) ⌝ }
@@ -116,11 +88,11 @@ fn act_load(s: State, room: &mut [u8]) -> Acted
 {
     let i = s.incoming;
     let p = s.progress;
-    let l = protocol::read_load(frame(i));
+    let l = protocol::read_load(head::frame_of(i));
     let good = protocol::load_is_good(l, s.config.ram_len);
     let reply = protocol::load_reply(i.header, good);
     if good {
-        return answer(s, loaded(l), reply, room);
+        return answer(s, head::loaded(l), reply, room);
     }
     answer(s, p, reply, room)
 }
@@ -178,7 +150,7 @@ fn act_block(s: State, room: &mut [u8], ram: &mut [u8], uds: &mut [u32]) -> Acte
 {
     let i = s.incoming;
     let p = s.progress;
-    super::memory::store(ram, frame(i), p.size, p.block);
+    super::memory::store(ram, head::frame_of(i), p.size, p.block);
     if protocol::is_last(p.size, p.block) {
         return finish(s, room, ram, uds);
     }

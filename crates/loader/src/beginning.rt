@@ -6,7 +6,7 @@ ghost use lib.ListN.{length};
 ghost use Rattle.protocol.specs.Commands.{longest};
 ghost use Rattle.record.specs.Record.{recordOf};
 ghost use Rattle.head.specs.Answers.{resultOf};
-ghost use Rattle.head.specs.Begin.{flashOf, configOf, waitingWith, byType};
+ghost use Rattle.head.specs.Begin.{flashOf, waitingWith, byType};
 use head::Answer;
 use head::Begun;
 use head::Config;
@@ -15,32 +15,6 @@ use head::State;
 use head::Stop;
 use record::Place;
 use record::Record;
-
-// The bytes of a record, by value.
-pub fn record_bytes(record: &[u8]) -> [u8; 256]
-    requires { ⌜ length (now «record») ≡ 256 ⌝ }
-    ensures { λ r. ⌜ r ≡ now («record» .entry) ⌝ }
-{
-    let mut bytes = [0u8; 256];
-    bytes::copy(record, &mut bytes);
-    bytes
-}
-
-// What a session goes by.
-fn config(r: Record, udi: [u8; 8], built_in: [u8; 32], ram_len: usize) -> Config
-    ensures { λ c. ⌜ c ≡ configOf (recordOf r) udi «built_in» «ram_len» ⌝ }
-{
-    let reset_type = r.reset_type;
-    let measured_id = r.measured_id;
-    Config {
-        ram_len,
-        verify: record::verifies(reset_type),
-        required: record::required(r, built_in),
-        chained: r.reset_seed,
-        measured_id,
-        udi,
-    }
-}
 
 // A session that waits for a load.
 fn wait(config: Config) -> Begun
@@ -75,7 +49,7 @@ pub fn by_type<'a>(
     requires { ⌜ (length (now ram) ≤ longest) × (length (now uds) ≡ 8) ⌝ }
     ensures { λ b. ⌜ resultOf b (now (ram .exit)) (now (uds .exit)) ≡ byType (recordOf r) udi (flashOf (now (slot0 .entry)) size0 (now (slot1 .entry)) size1 «built_in») (now (ram .entry)) (now (uds .entry)) ⌝ }
 {
-    let c = config(r, udi, built_in, ram.len());
+    let c = head::config_of(r, udi, built_in, ram.len());
     let reset_type = r.reset_type;
     match record::source(reset_type) {
         Place::Slot0 => super::flash::boot(c, slot0, slot1, false, size0, ram, uds),

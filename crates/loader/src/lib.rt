@@ -47,7 +47,7 @@ pub fn begin<'a>(
     match head::admit_begin(record.len(), ram.len(), uds.len()) {
         Admission::Refused(why) => starting::end(Answer::Refused(why), 1),
         Admission::Admitted => {
-            let r = record::read(beginning::record_bytes(record));
+            let r = record::read(record::front(record));
             beginning::by_type(r, udi, slot0, size0, slot1, size1, built_in, ram, uds)
         }
     }

@@ -3,6 +3,7 @@
 ghost use mathlib.Core.Path.{_≡_};
 ghost use Prim.Native.Nat.{_+_, _≤_};
 ghost use lib.ListN.{length, take, drop};
+ghost use Rattle.endian.specs.Lists.{padded};
 ghost use Rattle.record.specs.Record.{typeNumber, knownType, recordOf, recordAt};
 ghost use Rattle.record.specs.Types.{sourceAt, sourceOf, verifies, requiredOf};
 
@@ -61,6 +62,15 @@ fn part(bytes: &[u8], from: usize) -> [u8; 32]
     let mut p = [0u8; 32];
     bytes::copy(&bytes[from..from + 32], &mut p);
     p
+}
+
+// The first 256 bytes of what is lent as a record, with zeros behind them where there are fewer.
+pub fn front(record: &[u8]) -> [u8; 256]
+    ensures { λ r. ⌜ r ≡ padded 256 (take 256 (now («record» .entry))) ⌝ }
+{
+    let mut bytes = [0u8; 256];
+    bytes::copy(endian::first(record, 256), &mut bytes);
+    bytes
 }
 
 // Reads a record.

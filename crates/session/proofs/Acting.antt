@@ -140,7 +140,7 @@ module _ (R : Reset) where
 
     module _ (g : Shape m os) (due : length (g .blocks) < blocksFor (sizeOf (g .load))) (held : take (127 * length (g .blocks)) ram ≡ carried (g .blocks)) (f : List ℕ)
         (b : BlockFrame f) where
-      abbrev more : Shape m (os ++ f ∷ [])
+      abbrev pub more : Shape m (os ++ f ∷ [])
       more =
           record {
             opening = g .opening;
@@ -195,13 +195,13 @@ module _ (R : Reset) where
 
       -- the last
       module _ (z : isLast (sizeOf (g .load)) (length (g .blocks)) ≡ true) where
-        program-in : take (sizeOf (g .load)) ram-after ≡ programOf (g .load) (g .blocks ++ f ∷ [])
+        pub program-in : take (sizeOf (g .load)) ram-after ≡ programOf (g .load) (g .blocks ++ f ∷ [])
         program-in =
             let s = load-size m (g .load) (g .loads) in
             let to : 127 * length (g .blocks) + countIn (sizeOf (g .load)) (length (g .blocks)) ≡ sizeOf (g .load) = protocol .last (sizeOf (g .load)) (length (g .blocks)) (s .0) z in
             subst (λ (i : ℕ). take i ram-after ≡ take i (carried (g .blocks ++ f ∷ []))) to stored-front
 
-        all-there : length (g .blocks ++ f ∷ []) ≡ blocksFor (sizeOf (g .load))
+        pub all-there : length (g .blocks ++ f ∷ []) ≡ blocksFor (sizeOf (g .load))
         all-there = counts ∙ sym (eqb-true (blocksFor (sizeOf (g .load))) (length (g .blocks) + 1) z)
 
         -- the digest of the program
@@ -259,12 +259,12 @@ module _ (R : Reset) where
 
     -- ---- the frame that was gathered
 
-    held-frame : (h : ℕ) (q : List ℕ) → forFirmware (h ∷ q) ≡ true → length q ≡ 128 → holding (h ∷ q) .header ∷ holding (h ∷ q) .body ≡ h ∷ q
+    pub held-frame : (h : ℕ) (q : List ℕ) → forFirmware (h ∷ q) ≡ true → length q ≡ 128 → holding (h ∷ q) .header ∷ holding (h ∷ q) .body ≡ h ∷ q
     held-frame h q o l =
         let d : drop (length q) (zeros 128) ≡ [] = drop-of-length-le (zeros 128) {i = length q} (omega arith) in
         rw (o, d, append-nil q)
 
-    held-body : (h : ℕ) (q : List ℕ) → Good (h ∷ q) → bodyLen (headerAt h) ≡ length q
+    pub held-body : (h : ℕ) (q : List ℕ) → Good (h ∷ q) → bodyLen (headerAt h) ≡ length q
     held-body h q w =
         let e : bodyLen (headerAt h) ≡ w .n = ap bodyLen (w .header) in
         let l : suc (length q) ≡ 1 + w .n = w .whole in

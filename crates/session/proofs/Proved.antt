@@ -72,7 +72,7 @@ unfolding flatten
 first-live R r f =
     record { frames = []; part = []; all-good = tt; whole = refl; partial = tt; owned = refl; progress = waiting; state = f .state; doing = is-waiting tt }
 
-first-runs : (R : Reset) → Fresh R → Runs (length (R .ram)) (begun R .state) false false
+pub first-runs : (R : Reset) → Fresh R → Runs (length (R .ram)) (begun R .state) false false
 first-runs R f =
     record {
       range = ranges R [] .begun;

@@ -20,10 +20,10 @@ use Rattle.session.proofs.Begins.{Runs, number-is, overAfter, fullAfter
 use Rattle.head.specs.declared.State.{State}
 
 module _ (uds : List ℕ) (typed : Words uds) where
-  abbrev lending : List ℕ → Loan
+  abbrev pub lending : List ℕ → Loan
   lending r = record { room = zeros 129; ram = r; uds = uds; words = typed }
 
-  abbrev acting : State → List ℕ → Outcome
+  abbrev pub acting : State → List ℕ → Outcome
   acting s r = acted s (zeros 129) r uds
 
   -- the calls for these bytes, from a state and the RAM that the last acting left

@@ -3,6 +3,7 @@ use mathlib.Core.Path.{_≡_, sym, ap, _∙_}
 use mathlib.Core.Bool.{true}
 use lib.ListN.{length}
 use Rattle.record.specs.Record.{Contents, recordAt}
+use Rattle.record.proofs.Fields.{whole-front}
 use Rattle.protocol.specs.Commands.{lengthOk}
 use Rattle.head.specs.Begin.{Flash, flashOf, byType, beginRefusal}
 use Rattle.head.proofs.Ranges.{length-facts}
@@ -32,9 +33,6 @@ admitted t =
     let a = call y .args in
     begin-admitted (length (a .«record» .now)) (length (a .ram .now)) (length (a .uds .now)) (sym (admission y _ (t .enum-told .given .1)))
 
-record-bytes-requires : tie.Need-record-bytes-requires
-record-bytes-requires c κs = admitted c .1
-
 by-type-requires : tie.Need-by-type-requires
 by-type-requires c κs =
     let t = c .before .before .before .before in
@@ -57,7 +55,7 @@ returns-2 c =
     let y = t .before .before in
     let a = call y .args in
     x .by-type .ensures
-    ∙ ap (λ (k : Contents). byType k (a .udi) (flash y) (a .ram .now) (a .uds .now)) (d .read .ensures ∙ ap recordAt (d .before .record-bytes .ensures))
+    ∙ ap (λ (k : Contents). byType k (a .udi) (flash y) (a .ram .now) (a .uds .now)) (d .read .ensures ∙ ap recordAt (d .before .front .ensures ∙ whole-front (a .«record» .now) (admitted t .1)))
     ∙ begin-admitted-as (a .«record» .now) (a .udi) (flash y) (a .ram .now) (a .uds .now) (admission y _ (t .enum-told .given .1))
 
 pub begin-spec : {M : Type 1} → statement M
@@ -68,7 +66,7 @@ begin-spec =
     (λ c. search needs)
     (λ c κs. search needs)
     (λ c. search needs)
-    record-bytes-requires
+    (λ c κs. search needs)
     (λ c κs. search needs)
     by-type-requires
     returns

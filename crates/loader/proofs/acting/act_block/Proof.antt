@@ -14,7 +14,7 @@ facts : (z : tie.Start) → Loaded (z .args .s .progress) (length (z .args .ram 
 facts z = loading-facts (z .args .s .progress) (length (z .args .ram .now)) (z .pre .1 .0)
 
 -- the call, from where the frame is put together
-abbrev call : tie.After-frame → tie.Start
+abbrev call : tie.After-frame-of → tie.Start
 call f = f .before .before .before .before .before .before .before
 
 -- where the block is stored, from where it is tested whether it is the last
@@ -40,7 +40,7 @@ returns c =
     let y = storing l in
     let f = y .before in
     let a = call f .args in
-    rw (← (last-block (a .s) (f .frame .result) (l .is-last .result) (a .room .now) (a .ram .now) _ (a .uds .now) (f .frame .ensures) (y .store .ensures)
+    rw (← (last-block (a .s) (f .frame-of .result) (l .is-last .result) (a .room .now) (a .ram .now) _ (a .uds .now) (f .frame-of .ensures) (y .store .ensures)
     (l .is-last .ensures) (t .if1 .taken))) (x .finish .ensures)
 
 next-block-requires : tie.Need-next-block-requires
@@ -66,7 +66,7 @@ returns-2 c =
     let y = storing l in
     let f = y .before in
     let a = call f .args in
-    other-block (a .s) (f .frame .result) (l .is-last .result) (a .room .now) (a .ram .now) _ (a .uds .now) (f .frame .ensures) (y .store .ensures)
+    other-block (a .s) (f .frame-of .result) (l .is-last .result) (a .room .now) (a .ram .now) _ (a .uds .now) (f .frame-of .ensures) (y .store .ensures)
     (l .is-last .ensures) (t .if1 .left) (r .block-reply .result) (n .next-block .result) (x .answer .result) _ (r .block-reply .ensures)
     (n .next-block .ensures) (x .answer .ensures)
 

@@ -11,7 +11,7 @@ use Rattle.loader.proofs.acting.act_load.Statement.{statement}
 use Rattle.loader.proofs.acting.act_load.Tie as tie
 
 -- where the frame is put together, from where the reply is made
-abbrev framing : tie.After-load-reply → tie.After-frame
+abbrev framing : tie.After-load-reply → tie.After-frame-of
 framing y = y .before .before .before
 
 abbrev state : tie.After-load-reply → State
@@ -23,7 +23,7 @@ made : (y : tie.After-load-reply) → (y .load-reply .result ≡ loadAnswer (sta
 made y =
     let g = y .before in
     let l = g .before in
-    let f = framing y .frame in
+    let f = framing y .frame-of in
     load-made (state y) (f .result) (l .read-load .result) (g .load-is-good .result) (y .load-reply .result) (f .ensures) (l .read-load .ensures)
     (g .load-is-good .ensures) (y .load-reply .ensures)
 

@@ -17,12 +17,12 @@ abbrev flash : tie.After-source → Flash
 flash y = let a = call y .args in flashOf (a .slot0 .now) (a .size0) (a .slot1 .now) (a .size1) (a .built-in)
 
 from : (y : tie.After-source) (k : Place) → y .source .result ≡ k
-    → bySource (sourceAt k) (flash y) (y .before .config .result) (call y .args .ram .now) (call y .args .uds .now)
+    → bySource (sourceAt k) (flash y) (y .before .config-of .result) (call y .args .ram .now) (call y .args .uds .now)
     ≡ byType (recordOf (call y .args .r)) (call y .args .udi) (flash y) (call y .args .ram .now) (call y .args .uds .now)
 from y k e =
     let a = call y .args in
-    by-source (recordOf (a .r)) (a .udi) (flash y) (a .ram .now) (a .uds .now) k (y .before .config .result) (ap sourceAt (sym e) ∙ y .source .ensures)
-    (y .before .config .ensures)
+    by-source (recordOf (a .r)) (a .udi) (flash y) (a .ram .now) (a .uds .now) k (y .before .config-of .result) (ap sourceAt (sym e) ∙ y .source .ensures)
+    (y .before .config-of .ensures)
 
 returns : tie.Need-returns
 returns c =

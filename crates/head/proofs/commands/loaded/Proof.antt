@@ -1,7 +1,7 @@
 -- By the fields of the load.
 use borrow.Author.Needs.{needs}
-use Rattle.loader.proofs.acting.loaded.Statement.{statement}
-use Rattle.loader.proofs.acting.loaded.Tie as tie
+use Rattle.head.proofs.commands.loaded.Statement.{statement}
+use Rattle.head.proofs.commands.loaded.Tie as tie
 
 returns : tie.Need-returns
 returns c = rw (c .uses-uss .ensures)

@@ -1,0 +1,10 @@
+pub mod Next
+pub mod Closing
+pub mod Exclusive
+pub mod Hashing
+pub mod Asked
+pub mod Following
+pub mod Monitors
+pub mod Walks
+pub mod Existing
+pub mod Proved

@@ -1,0 +1,326 @@
+-- The theorem of specs/Theorems.antt.
+use Prim.Native.Nat.{ℕ, zero, suc, _+_, _<_, _≤_}
+use mathlib.Core.Path.{_≡_, refl, sym, ap, _∙_, subst}
+use mathlib.Core.Logic.{_↔_, _⊎_, inl, inr}
+use mathlib.Core.Bool.{true, false}
+use mathlib.Core.List.{List, [], _∷_, _++_, append-assoc, flatten}
+use native.Mathlib.Omega.{arith}
+use lib.ListN.{length, take, length-append, length-replicate}
+use lib.Seq.{take-append-seam}
+use Rattle.endian.specs.Lists.{zeros, Words}
+use Rattle.endian.proofs.Cases.{impossible}
+use Rattle.record.specs.Record.{recordAt}
+use Rattle.head.specs.Answers as head
+use Rattle.head.specs.Begin.{flashOf}
+use Rattle.session.specs.Reading.{typeOf}
+use Rattle.session.specs.Session.{Reset, begun, AsksClient, Admitted, Call, Entry, log, accepted, OneRam, Session, ramLen, allOf}
+use Rattle.session.specs.Boot.{Started}
+use Rattle.session.proofs.Begins.{Fresh, begin-accepted, fresh, unknown-halts}
+use Rattle.session.proofs.Proved.{first-live, first-runs, begins, verified-boot}
+use Rattle.session.proofs.Sending.{callsFor}
+use Rattle.session.proofs.Shapes.{no-load}
+use Rattle.head.specs.declared.State.{State}
+use Rattle.diagnosis.specs.Reasons.{Reason, refused, stopped, unfinished, waiting, missing, started, Explained}
+use Rattle.diagnosis.specs.Monitor.{closed, opened, heard, explained, diagnosis, isOpen}
+use Rattle.diagnosis.specs.Monitor as monitor
+use Rattle.diagnosis.specs.declared.Monitor.{Monitor}
+use Rattle.diagnosis.specs.declared.Verdict.{Verdict}
+use Rattle.diagnosis.specs.declared.Verdict.the-variants.{Refused, Stopped}
+use Rattle.diagnosis.specs.declared.Refusal.the-variants.{RecordLength, RamSize, FromFlash}
+use Rattle.head.specs.declared.Stop.the-variants.{UnknownType}
+use Rattle.reasons.specs.Meaning.{Lent, FrameAt, BadHeader, Holds, record-length, ram-size, from-flash, unknown-type, bad-header, bad-command, bad-length, bad-digest, is-unfinished, is-waiting, is-missing, has-started}
+use Rattle.reasons.specs.Theorems.{reasonFor, goesOn, Hears, endsOf, endIn, Hearing, Diagnoses}
+use Rattle.reasons.proofs.Exclusive.{one-reason}
+use Rattle.reasons.proofs.Hashing.{hashed-nothing}
+use Rattle.reasons.proofs.Following.{seen, Follows}
+use Rattle.reasons.proofs.Monitors.{reasonIn, by-begun, heard-both, heard-after, open-goes, no-earlier}
+use Rattle.reasons.proofs.Walks.{Tells, walk}
+use Rattle.reasons.proofs.Existing.{Heard, hearing}
+
+-- the reason, by what was heard
+told : (rec : List ℕ) (m : ℕ) (bytes : List ℕ) → reasonFor rec m bytes ≡ reasonIn (heard (monitor.begun rec m) bytes)
+unfolding diagnosis explained
+told rec m bytes = refl
+
+-- a verdict that comes before any byte
+closed-heard : (v : Verdict) (bytes : List ℕ) → isOpen v ≡ false → heard (closed v) bytes ≡ closed v
+unfolding closed
+closed-heard v bytes e = heard-after (closed v) bytes e
+
+module _ (R : Reset) (lent : Admitted R) (client : AsksClient R) where
+  abbrev m : ℕ
+  m = length (R .ram)
+
+  abbrev first : Monitor
+  first = opened (recordAt (R .rec)) m
+
+  begins-open : monitor.begun (R .rec) m ≡ first
+  begins-open =
+      by-begun (R .rec) m (λ (w : Monitor). w ≡ first) (λ n. absurd (n (lent .record-length))) (λ e n. absurd (n (lent .ram-some, lent .ram-small)))
+      (λ l t. absurd (known t client)) (λ a. refl) (λ l t. absurd (known′ t client))
+    where
+      known : typeOf (R .rec) ≤ 3 → AsksClient R → ⊥
+      known t (inl e) = omega arith
+      known t (inr e) = omega arith
+
+      known′ : 6 ≤ typeOf (R .rec) → AsksClient R → ⊥
+      known′ t (inl e) = omega arith
+      known′ t (inr e) = omega arith
+
+  first-follows : (f : Fresh R) → Follows R [] [] (begun R .state) first
+  unfolding opened
+  first-follows f =
+      record {
+        live = refl;
+        head = sym (ap (λ (s : State). seen R s) (f .state));
+        hash = λ g. absurd (no-load m [] tt (g .opening) (g .load) (g .blocks) (g .loads) (g .order));
+        count = refl;
+      }
+
+  -- what the monitor tells of a session that hears these bytes, whatever the RAM of its first acting holds
+  module _ (r : List ℕ) (cs : List Call) (bytes : List ℕ) where
+    abbrev entries : List Entry
+    entries = log (begun R .state) cs
+
+    tells : Hears m bytes entries → OneRam r (accepted entries) → Tells R lent client [] bytes entries (heard first bytes)
+    tells h one =
+        let f = fresh R (begin-accepted R .1 lent) client in
+        walk R lent client bytes [] [] (begun R .state) r first cs (first-live R r f) (first-follows f) (first-runs R f) h one
+
+  reason-is : (bytes : List ℕ) → reasonFor (R .rec) m bytes ≡ reasonIn (heard first bytes)
+  reason-is bytes = told (R .rec) m bytes ∙ ap (λ (w : Monitor). reasonIn (heard w bytes)) begins-open
+
+  -- there is such a session
+  module _ (ram uds bytes : List ℕ) (same : length ram ≡ m) (eight : length uds ≡ 8) (typed : Words uds) where
+    heard-by : Heard uds typed R eight bytes ram (log (begun R .state) (callsFor uds typed bytes (begun R .state) ram))
+    heard-by =
+        let f = fresh R (begin-accepted R .1 lent) client in
+        hearing uds typed R eight bytes [] [] (begun R .state) ram (first-live R ram f) (first-runs R f) same
+
+    pub exists : Hearing R ram bytes
+    exists =
+        record {
+          session =
+              record {
+                reset = R;
+                begins = begin-accepted R .1 lent;
+                client = client;
+                calls = callsFor uds typed bytes (begun R .state) ram;
+                ram = ram;
+                one-ram = heard-by .one-ram;
+              };
+          same-reset = refl;
+          same-ram = refl;
+          hears = heard-by .hears;
+        }
+
+    holds-heard : Holds (R .rec) m bytes (reasonIn (heard first bytes))
+    holds-heard = tells ram (callsFor uds typed bytes (begun R .state) ram) bytes (heard-by .hears) (heard-by .one-ram) .holds
+
+-- ---- the reason holds
+
+zero-words : (n : ℕ) → Words (zeros n)
+zero-words zero = tt
+zero-words (suc n) = (omega arith, zero-words n)
+
+-- a head with this record and a RAM of zeros
+abbrev resetOf : List ℕ → ℕ → Reset
+resetOf rec m =
+    record {
+      rec = rec;
+      udi = zeros 8;
+      flash = flashOf [] 0 [] 0 (zeros 32);
+      ram = zeros m;
+      uds = zeros 8;
+      typed = zero-words 8;
+    }
+
+length-zeros : (m : ℕ) → length (zeros m) ≡ m
+length-zeros m = length-replicate m 0
+
+admits : (rec : List ℕ) (m : ℕ) → Lent rec m → Admitted (resetOf rec m)
+admits rec m l =
+    let e = length-zeros m in
+    let s = l .ram-some in
+    let k = l .ram-small in
+    record { eight = refl; record-length = l .record-length; ram-some = omega arith; ram-small = omega arith }
+
+-- where the verdict comes before any byte
+early : (rec : List ℕ) (m : ℕ) (bytes : List ℕ) (v : Verdict) → isOpen v ≡ false → Holds rec m bytes (reasonIn (closed v))
+    → Holds rec m bytes (reasonIn (heard (closed v) bytes))
+early rec m bytes v e h = subst (λ (w : Monitor). Holds rec m bytes (reasonIn w)) (sym (closed-heard v bytes e)) h
+
+holds : (rec : List ℕ) (m : ℕ) (bytes : List ℕ) → Holds rec m bytes (reasonFor rec m bytes)
+unfolding closed
+holds rec m bytes =
+    subst (Holds rec m bytes) (sym (told rec m bytes))
+    (by-begun rec m (λ (w : Monitor). Holds rec m bytes (reasonIn (heard w bytes)))
+    (λ n. early rec m bytes (Refused RecordLength) refl (record-length n)) (λ e n. early rec m bytes (Refused RamSize) refl (ram-size e n)) (λ l t. early rec m bytes (Refused FromFlash) refl (from-flash l t))
+    (λ a.
+    subst (λ (k : ℕ). Holds rec k bytes (reasonIn (heard (opened (recordAt rec) k) bytes))) (length-zeros m)
+    (holds-heard (resetOf rec m) (admits rec m (a .lent)) (a .client) (zeros m) (zeros 8) bytes refl refl (zero-words 8)))
+    (λ l t. early rec m bytes (Stopped UnknownType) refl (unknown-type l t)))
+
+only : (rec : List ℕ) (m : ℕ) (bytes : List ℕ) (r : Reason) → Holds rec m bytes r → r ≡ reasonFor rec m bytes
+only rec m bytes r h = one-reason rec m bytes r (reasonFor rec m bytes) h (holds rec m bytes)
+
+-- ---- it is what the head did
+
+module _ (S : Session) (bytes : List ℕ) (hears : Hears (ramLen S) bytes (allOf S)) where
+  lent : Admitted (S .reset)
+  lent = begins S .lent
+
+  told-of : Tells (S .reset) lent (S .client) [] bytes (allOf S) (heard (first (S .reset) lent (S .client)) bytes)
+  told-of = tells (S .reset) lent (S .client) (S .ram) (S .calls) bytes hears (S .one-ram)
+
+  did : endsOf 0 (allOf S) ≡ endIn (reasonFor (S .reset .rec) (ramLen S) bytes)
+  did = told-of .ends ∙ ap endIn (sym (reason-is (S .reset) lent (S .client) bytes))
+
+  starts : (reasonFor (S .reset .rec) (ramLen S) bytes ≡ started) ↔ Started S
+  starts =
+      let t = told-of .starts in
+      let e = reason-is (S .reset) lent (S .client) bytes in (
+        λ q.
+            let x = t .0 (sym e ∙ q) in
+            (x .loan, x .out, record { among = x .among; address = x .answered .address; size = x .answered .size; answers = x .answered .answers }),
+        λ x.
+            e ∙ t .1 (record {
+              loan = x .0;
+              out = x .1;
+              among = x .2 .among;
+              answered = record { address = x .2 .address; size = x .2 .size; answers = x .2 .answers };
+            }),
+      )
+
+-- stop 20 says that the type is unknown
+abbrev stopIn : Reason → ℕ
+stopIn (refused k) = 0
+stopIn (stopped k i) = k
+stopIn unfinished = 0
+stopIn waiting = 0
+stopIn (missing n) = 0
+stopIn started = 0
+
+unknown : (rec : List ℕ) (m : ℕ) (bytes : List ℕ) (r : Reason) → Holds rec m bytes r → stopIn r ≡ 20 → 6 ≤ typeOf rec
+unknown rec m bytes r (record-length n) e = absurd (omega arith)
+unknown rec m bytes r (ram-size l n) e = absurd (omega arith)
+unknown rec m bytes r (from-flash l t) e = absurd (omega arith)
+unknown rec m bytes r (unknown-type l t) e = t
+unknown rec m bytes r (bad-header a i x) e = absurd (omega arith)
+unknown rec m bytes r (bad-command a i x) e = absurd (omega arith)
+unknown rec m bytes r (bad-length a i x) e = absurd (omega arith)
+unknown rec m bytes r (bad-digest a i x) e = absurd (omega arith)
+unknown rec m bytes r (is-unfinished a x) e = absurd (omega arith)
+unknown rec m bytes r (is-waiting a x) e = absurd (omega arith)
+unknown rec m bytes r (is-missing a k x) e = absurd (omega arith)
+unknown rec m bytes r (has-started a x) e = absurd (omega arith)
+
+at-begin : (R : Reset) (bytes : List ℕ) → Admitted R → (begun R .report ≡ head.stopped 20) ↔ (reasonFor (R .rec) (length (R .ram)) bytes ≡ stopped 20 0)
+at-begin R bytes a =
+    let rec = R .rec in
+    let m = length (R .ram) in
+    let l : Lent rec m = record { record-length = a .record-length; ram-some = a .ram-some; ram-small = a .ram-small } in (
+      λ e. sym (only rec m bytes (stopped 20 0) (unknown-type l (verified-boot .begin-stops R .stop-20 .0 e .1))),
+      λ e. verified-boot .begin-stops R .stop-20 .1 (a, unknown rec m bytes _ (holds rec m bytes) (ap stopIn e)),
+    )
+
+resets : (rec : List ℕ) (m : ℕ) → length rec ≡ 256 → 1 ≤ m → m ≤ 131072 → (R : Reset) × (R .rec ≡ rec) × (length (R .ram) ≡ m) × Admitted R
+resets rec m l s k = (resetOf rec m, refl, length-zeros m, admits rec m (record { record-length = l; ram-some = s; ram-small = k }))
+
+-- ---- earlier bytes and later ones
+
+-- nothing is counted before the first byte
+from-zero : (rec : List ℕ) (m : ℕ) → monitor.begun rec m .position .byte ≡ 0
+unfolding closed opened
+from-zero rec m = by-begun rec m (λ (w : Monitor). w .position .byte ≡ 0) (λ n. refl) (λ e n. refl) (λ l t. refl) (λ a. refl) (λ l t. refl)
+
+first-end : (rec : List ℕ) (m : ℕ) (bytes : List ℕ) (k i : ℕ) → reasonFor rec m bytes ≡ stopped k i → (j : ℕ) → j < i
+    → goesOn (reasonFor rec m (take j bytes)) ≡ true
+first-end rec m bytes k i e j l =
+    let w = monitor.begun rec m in
+    ap goesOn (told rec m (take j bytes)) ∙ open-goes (heard w (take j bytes)) ∙ no-earlier w bytes (from-zero rec m) k i j (sym (told rec m bytes) ∙ e) l
+
+later : (rec : List ℕ) (m : ℕ) (bytes more : List ℕ) → goesOn (reasonFor rec m bytes) ≡ false → diagnosis rec m (bytes ++ more) ≡ diagnosis rec m bytes
+unfolding diagnosis
+later rec m bytes more e =
+    let w = monitor.begun rec m in
+    let c : isOpen (heard w bytes .verdict) ≡ false = sym (open-goes (heard w bytes)) ∙ ap goesOn (sym (told rec m bytes)) ∙ e in
+    ap explained (heard-both w bytes more ∙ heard-after (heard w bytes) more c)
+
+-- what is said of the bytes up to byte i is said of them and of what else may come
+module _ (rec : List ℕ) (m : ℕ) (bytes more : List ℕ) where
+  -- the bytes up to byte i, where they are x
+  up-to : (x rest : List ℕ) (i : ℕ) → bytes ≡ x ++ rest → i ≡ length x → take i bytes ++ more ≡ x ++ more
+  up-to x rest i e l = rw (e, l) (ap (λ (y : List ℕ). y ++ more) (take-append-seam x rest))
+
+  abbrev frame-up-to : {i : ℕ} → FrameAt bytes i → FrameAt (take i bytes ++ more) i
+  frame-up-to {i = i} x =
+      record {
+        before = x .before;
+        frame = x .frame;
+        rest = more;
+        reads = up-to (flatten (x .before ++ x .frame ∷ [])) (x .rest) i (x .reads) (x .place);
+        all-good = x .all-good;
+        for-firmware = x .for-firmware;
+        place = x .place;
+      }
+
+  header-up-to : {i : ℕ} → BadHeader m bytes i → BadHeader m (take i bytes ++ more) i
+  header-up-to {i = i} x =
+      let f = x .frames in
+      let e : bytes ≡ (flatten (f .before) ++ x .header ∷ []) ++ x .after =
+      f .reads ∙ ap (λ (y : List ℕ). flatten (f .before) ++ y) (x .next) ∙ sym (append-assoc (flatten (f .before)) (x .header ∷ []) (x .after)) in
+      record {
+        frames =
+            record {
+              before = f .before;
+              rest = x .header ∷ more;
+              reads =
+                  up-to (flatten (f .before) ++ x .header ∷ []) (x .after) i e (x .place ∙ sym (length-append (flatten (f .before)) (x .header ∷ [])))
+                  ∙ append-assoc (flatten (f .before)) (x .header ∷ []) more;
+              all-good = f .all-good;
+              goes-on = f .goes-on;
+            };
+        header = x .header;
+        after = more;
+        next = refl;
+        bad = x .bad;
+        place = x .place;
+      }
+
+  holds-up-to : (r : Reason) → Holds rec m bytes r → (k i : ℕ) → r ≡ stopped k i → Holds rec m (take i bytes ++ more) r
+  holds-up-to r (record-length n) k i e = record-length n
+  holds-up-to r (ram-size l n) k i e = ram-size l n
+  holds-up-to r (from-flash l t) k i e = from-flash l t
+  holds-up-to r (unknown-type l t) k i e = unknown-type l t
+  holds-up-to r (bad-header a j x) k i e = let q : j ≡ i = cc in bad-header a j (rw (← q) (header-up-to x))
+  holds-up-to r (bad-command a j x) k i e =
+      let q : j ≡ i = cc in bad-command a j (rw (← q) (record { at = frame-up-to (x .at); not-allowed = x .not-allowed }))
+  holds-up-to r (bad-length a j x) k i e =
+      let q : j ≡ i = cc in bad-length a j (rw (← q) (record { at = frame-up-to (x .at); other-length = x .other-length }))
+  holds-up-to r (bad-digest a j x) k i e =
+      let q : j ≡ i = cc in bad-digest a j (rw (← q) (record { at = frame-up-to (x .at); load = x .load; all-came = x .all-came; barred = x .barred }))
+  holds-up-to r (is-unfinished a x) k i e = impossible cc
+  holds-up-to r (is-waiting a x) k i e = impossible cc
+  holds-up-to r (is-missing a n x) k i e = impossible cc
+  holds-up-to r (has-started a x) k i e = impossible cc
+
+rest : (rec : List ℕ) (m : ℕ) (bytes more : List ℕ) (k i : ℕ) → reasonFor rec m bytes ≡ stopped k i → reasonFor rec m (take i bytes ++ more) ≡ stopped k i
+rest rec m bytes more k i e =
+    sym (only rec m (take i bytes ++ more) (stopped k i)
+    (subst (Holds rec m (take i bytes ++ more)) e (holds-up-to rec m bytes more (reasonFor rec m bytes) (holds rec m bytes) k i e)))
+
+pub diagnoses : Diagnoses
+diagnoses =
+    record {
+      holds = holds;
+      only = only;
+      did = did;
+      starts = starts;
+      begins = at-begin;
+      exists = λ R ram uds bytes a c e w t. exists R a c ram uds bytes e w t;
+      resets = resets;
+      first = first-end;
+      later = later;
+      rest = rest;
+    }
