@@ -33,6 +33,10 @@ byType t = cond (leb t 3) (settled (refused 48)) (cond (leb 6 t) (settled (stopp
 own-at : (fs : List (List ℕ)) (f : List ℕ) (gs : List (List ℕ)) → forFirmware f ≡ true → own (fs ++ f ∷ gs) ≡ own fs ++ f ∷ own gs
 own-at fs f gs e = own-append fs (f ∷ gs) ∙ ap (λ (x : Bool). own fs ++ cond x (f ∷ own gs) (own gs)) e
 
+-- a load as a shape of the frames for the firmware
+abbrev pub shape-of : (m : ℕ) {fs : List (List ℕ)} → Loads m fs → {os : List (List ℕ)} → os ≡ own fs → Shape m os
+shape-of m l e = record { opening = l .opening; load = l .load; blocks = l .blocks; order = e ∙ l .order; opens = l .opens; loads = l .loads; carry = l .carry }
+
 module _ (rec : List ℕ) (m : ℕ) (bytes : List ℕ) where
   -- ---- the frames that go on, and what comes then
 
@@ -78,12 +82,9 @@ module _ (rec : List ℕ) (m : ℕ) (bytes : List ℕ) where
 
   -- ---- the cut of each reason
 
-  abbrev shape-of : {fs : List (List ℕ)} → Loads m fs → {os : List (List ℕ)} → os ≡ own fs → Shape m os
-  shape-of l e = record { opening = l .opening; load = l .load; blocks = l .blocks; order = e ∙ l .order; opens = l .opens; loads = l .loads; carry = l .carry }
-
   still-open : (fs : List (List ℕ)) → Waits m fs ⊎ Misses m fs → Open m (own fs)
   still-open fs (inl w) = waits w
-  still-open fs (inr x) = let l = x .fewer in misses [] (own fs) (sym (append-nil (own fs))) (shape-of (x .so-far) refl) (omega arith)
+  still-open fs (inr x) = let l = x .fewer in misses [] (own fs) (sym (append-nil (own fs))) (shape-of m (x .so-far) refl) (omega arith)
 
   -- no frame closes the load
   at-end : {r : Reason} (x : Frames m bytes) (n : Next) → next (x .rest) ≡ n → Tail (x .before) n r → Cut r
@@ -117,13 +118,13 @@ module _ (rec : List ℕ) (m : ℕ) (bytes : List ℕ) where
 
     barred : (k : ℕ) → (Waits m (x .before) × Bars TakenWaiting (x .frame) k) ⊎ (Misses m (x .before) × Bars TakenLoading (x .frame) k) → Cut (stopped k i)
     barred k (inl w) = closing (waits (w .0)) (bars a-load (w .0) k (w .1) refl)
-    barred k (inr w) = closing (still-open (x .before) (inr (w .0))) (bars a-block (shape-of (w .0 .so-far) refl) k (w .1) refl)
+    barred k (inr w) = closing (still-open (x .before) (inr (w .0))) (bars a-block (shape-of m (w .0 .so-far) refl) k (w .1) refl)
 
     completed : {r : Reason} (l : Loads m (x .before ++ x .frame ∷ [])) → length (l .blocks) ≡ meaning.needed m l
         → Ruled m rec (digestOf (l .load) (l .blocks)) i r → Cut r
     completed l n d =
         let e = own-more (x .before) (x .frame) (x .for-firmware) in
-        closing (misses (x .frame ∷ []) _ e (shape-of l refl) (omega arith)) (completes (shape-of l (sym e)) n d)
+        closing (misses (x .frame ∷ []) _ e (shape-of m l refl) (omega arith)) (completes (shape-of m l (sym e)) n d)
 
   -- ---- all reasons
 
@@ -162,7 +163,7 @@ module _ (rec : List ℕ) (m : ℕ) (bytes : List ℕ) where
       asks a (at-end (u .frames) part (next-part (u .frames .rest) (u .id) (u .ep) (u .n) (u .header) (u .begun) (u .short)) refl)
   said r (is-waiting a w) = asks a (nothing-left (w .frames) (w .reads) (w .all-good) (inl (w .waits)) (for-load (w .waits) refl))
   said r (is-missing a k x) =
-      asks a (nothing-left (x .frames) (x .reads) (x .all-good) (inr (x .misses)) (for-blocks (shape-of (x .misses .so-far) refl) k (x .count) refl))
+      asks a (nothing-left (x .frames) (x .reads) (x .all-good) (inr (x .misses)) (for-blocks (shape-of m (x .misses .so-far) refl) k (x .count) refl))
   said r (has-started a s) =
       let w = s .starting in
       asks a (completed

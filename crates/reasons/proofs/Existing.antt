@@ -87,10 +87,10 @@ module _ (uds : List ℕ) (typed : Words uds) (R : Reset) (eight : length uds �
     gathers-first g x (bad-header e q z) =
         subst (HeardAfter g) (sym (ap reportsWhole e)) (over bs (g .state) r (rw e at x), rw (nothing-stopped (g .state) m (calls bs (g .state) r) q) tt)
 
-  pub hearing : (bs : List ℕ) → Rest bs
-  hearing [] os before s r v x n = record { hears = tt; one-ram = tt }
-  hearing (b ∷ bs) os before s r v x n =
+  pub hears-all : (bs : List ℕ) → Rest bs
+  hears-all [] os before s r v x n = record { hears = tt; one-ram = tt }
+  hears-all (b ∷ bs) os before s r v x n =
       let g = gathered s b in
       let z : numberOf s (gather b) ≡ 0 = number-is m s false false (gather b) x in
-      let h = gathers-first b bs (before ++ b ∷ []) r (hearing bs) n os g (next-runs m s false false (gather b) x) (after-gather R os before s r v b z) in
+      let h = gathers-first b bs (before ++ b ∷ []) r (hears-all bs) n os g (next-runs m s false false (gather b) x) (after-gather R os before s r v b z) in
       record { hears = (refl, h .0); one-ram = one-gathers b g r _ (isAccepted (g .report)) (h .1) }

@@ -44,8 +44,16 @@ use Rattle.diagnosis.specs.declared.Verdict.the-variants.{Open, Stopped, Starte
 use Rattle.diagnosis.specs.declared.Position.{Position}
 use Rattle.diagnosis.specs.declared.Monitor.{Monitor}
 use Rattle.reasons.specs.Meaning.{TakenWaiting, TakenLoading, NotAllowed, OtherLength}
+use Rattle.reasons.specs.Theorems.{Stands}
+use Rattle.reasons.proofs.Places.{Reads, begun}
 use Rattle.reasons.proofs.Hashing.{hashed, hashed-nothing, hashed-more, hashed-all}
 use Rattle.reasons.proofs.Asked.{AsksWaiting, a-name, a-udi, a-load, w-command, w-length, AsksLoading, a-block, l-command, l-length, asks-waiting, asks-loading}
+
+-- the last byte heard of bs, by its number, the frames that have begun, and its place in the frame
+pub record Placed (bs : List ℕ) (q : Position) : Type 0 where
+  pub count : q .byte ≡ length bs
+  pub frames : (fs : List (List ℕ)) (p : List ℕ) → Reads bs fs p → q .frame ≡ begun fs p
+  pub stands : (more : List ℕ) → 1 ≤ q .byte → Stands (bs ++ more) (q .byte) (q .frame) (q .offset)
 
 module _ (R : Reset) where
   abbrev m : ℕ
@@ -60,7 +68,7 @@ module _ (R : Reset) where
     pub live : w .verdict ≡ Open
     pub head : w .head ≡ seen s
     pub hash : (g : Shape m os) → w .hash ≡ hashed (carried (g .blocks))
-    pub count : w .position .byte ≡ length bs
+    pub placed : Placed bs (w .position)
 
   -- ---- a byte
 
@@ -95,18 +103,24 @@ module _ (R : Reset) where
     pub shape : Shape m os
     pub fewer : length (shape .blocks) < blocksFor (sizeOf (shape .load))
 
+  -- with f all of a program has come, and its digest is measured
+  pub record Weighs (os : List (List ℕ)) (f : List ℕ) (w : Monitor) : Type 0 where
+    pub shape : Shape m (os ++ f ∷ [])
+    pub all-came : length (shape .blocks) ≡ blocksFor (sizeOf (shape .load))
+    pub digest : w .digest ≡ digestOf (shape .load) (shape .blocks)
+
   -- why the frame f stops a head that has acted on os
-  pub data Why (os : List (List ℕ)) (f : List ℕ) : Stop → Type 0 where
-    why-command : (All (Opens m) os × NotAllowed TakenWaiting f) ⊎ (Due os × NotAllowed TakenLoading f) → Why os f Command
-    why-length : (All (Opens m) os × OtherLength TakenWaiting f) ⊎ (Due os × OtherLength TakenLoading f) → Why os f BodyLength
-    why-digest : (g : Shape m (os ++ f ∷ [])) → length (g .blocks) ≡ blocksFor (sizeOf (g .load)) → (AllowedOn R (digestOf (g .load) (g .blocks)) → ⊥) → Why os f Digest
+  pub data Why (os : List (List ℕ)) (f : List ℕ) (w : Monitor) : Stop → Type 0 where
+    why-command : (All (Opens m) os × NotAllowed TakenWaiting f) ⊎ (Due os × NotAllowed TakenLoading f) → Why os f w Command
+    why-length : (All (Opens m) os × OtherLength TakenWaiting f) ⊎ (Due os × OtherLength TakenLoading f) → Why os f w BodyLength
+    why-digest : (x : Weighs os f w) → (AllowedOn R (digestOf (x .shape .load) (x .shape .blocks)) → ⊥) → Why os f w Digest
 
   -- what acting on f and hearing it lead to
   pub data Agrees (os : List (List ℕ)) (f : List ℕ) (o : Outcome) (w : Monitor) : Type 0 where
     both-go : o .report ≡ continues → w .verdict ≡ Open → w .head ≡ seen (o .state)
         → ((g : Shape m (os ++ f ∷ [])) → w .hash ≡ hashed (carried (g .blocks))) → Agrees os f o w
-    both-stop : (k : Stop) → o .report ≡ stopped (stopNumber k) → w .verdict ≡ Stopped k → Why os f k → Agrees os f o w
-    both-start : (a n : ℕ) → o .report ≡ started a n → w .verdict ≡ Started → Agrees os f o w
+    both-stop : (k : Stop) → o .report ≡ stopped (stopNumber k) → w .verdict ≡ Stopped k → Why os f w k → Agrees os f o w
+    both-start : (a n : ℕ) → o .report ≡ started a n → w .verdict ≡ Started → Weighs os f w → Agrees os f o w
 
   -- the program may start, by what the monitor goes by: types 4 and 5 know no built-in digest
   seen-allows : (s : State) (d : List ℕ) → AsksClient R → allowed (seen s .config) d ≡ allowed (config R) d
@@ -190,6 +204,9 @@ module _ (R : Reset) where
       measures z =
           ap (λ (x : Context). finishOutput x (zeros 32)) hash-more ∙ hashed-all (carried (g .blocks) ++ part) ∙ ap (λ (x : List ℕ). blake2s [] x 32) (hash-last z)
 
+      abbrev weighs : isLast n k ≡ true → (w : Monitor) → w .digest ≡ digest → Weighs os f w
+      weighs z w e = record { shape = more R room ram uds fits os g due held f b; all-came = all-there R room ram uds fits os g due held f b z; digest = e }
+
       both-last : (z : isLast n k ≡ true) (i : Incoming) (x y : List ℕ) → x ≡ digest → y ≡ digest → (ram1 : List ℕ)
           → let s = at R i (loadedWith R (g .load) k) in Agrees os f (finishedWith x s room ram1 uds) (measured (watching s c q d) y)
       unfolding finishedWith decided starting
@@ -201,11 +218,8 @@ module _ (R : Reset) where
               → let s = at R i (loadedWith R (g .load) k) in
               Agrees os f (replied 129 (putIn room (sent (digestReply (i .header) digest))) (cond t (starting (config R) (s .progress) digest ram1 uds) (ending (stopped 25) m ram1 uds)))
               (record { head = seen s; hash = c; position = q; verdict = cond t Started (Stopped Digest); digest = digest })
-          go true e = both-start _ _ refl refl
-          go false e =
-              both-stop Digest refl refl
-              (why-digest (more R room ram uds fits os g due held f b) (all-there R room ram uds fits os g due held f b z)
-              (λ a. never (sym (allows R digest .1 a) ∙ e)))
+          go true e = both-start _ _ refl refl (weighs z _ refl)
+          go false e = both-stop Digest refl refl (why-digest (weighs z _ refl) (λ a. never (sym (allows R digest .1 a) ∙ e)))
 
       both-block : (i : Incoming) → i .header ∷ i .body ≡ f → Both f (at R i (loadedWith R (g .load) k)) givesBlock
       unfolding actedBlock blockHeard

@@ -1,10 +1,12 @@
 pub mod Next
 pub mod Closing
 pub mod Exclusive
+pub mod Places
 pub mod Hashing
 pub mod Asked
 pub mod Following
 pub mod Monitors
 pub mod Walks
 pub mod Existing
+pub mod Examples
 pub mod Proved

@@ -1,46 +1,60 @@
 -- The theorem of specs/Theorems.antt.
-use Prim.Native.Nat.{ℕ, zero, suc, _+_, _<_, _≤_}
+use Prim.Native.Nat.{ℕ, zero, suc, _+_, _^_, _<_, _≤_}
 use mathlib.Core.Path.{_≡_, refl, sym, ap, _∙_, subst}
-use mathlib.Core.Logic.{_↔_, _⊎_, inl, inr}
+use mathlib.Core.Logic.{_↔_, inl, inr, ⊎-elim}
 use mathlib.Core.Bool.{true, false}
-use mathlib.Core.List.{List, [], _∷_, _++_, append-assoc, flatten}
+use mathlib.Core.List.{List, [], _∷_, _++_, append-assoc, append-nil, flatten}
 use native.Mathlib.Omega.{arith}
 use lib.ListN.{length, take, length-append, length-replicate}
 use lib.Seq.{take-append-seam}
-use Rattle.endian.specs.Lists.{zeros, Words}
+use borrow.Author.Tests.{lt-ltb}
+use Rattle.endian.specs.Lists.{zeros, All, Words}
 use Rattle.endian.proofs.Cases.{impossible}
 use Rattle.record.specs.Record.{recordAt}
 use Rattle.head.specs.Answers as head
 use Rattle.head.specs.Begin.{flashOf}
-use Rattle.session.specs.Reading.{typeOf}
+use Rattle.session.specs.Reading.{Good, own, sizeOf, digestOf, typeOf}
 use Rattle.session.specs.Session.{Reset, begun, AsksClient, Admitted, Call, Entry, log, accepted, OneRam, Session, ramLen, allOf}
 use Rattle.session.specs.Boot.{Started}
 use Rattle.session.proofs.Begins.{Fresh, begin-accepted, fresh, unknown-halts}
 use Rattle.session.proofs.Proved.{first-live, first-runs, begins, verified-boot}
 use Rattle.session.proofs.Sending.{callsFor}
+use Rattle.session.proofs.Frames.{own-append}
 use Rattle.session.proofs.Shapes.{no-load}
+use Rattle.session.proofs.Acting.{empty-rest, grows}
+use Rattle.protocol.specs.Commands.{blocksFor}
+use Rattle.head.proofs.Ranges.{never}
 use Rattle.head.specs.declared.State.{State}
 use Rattle.diagnosis.specs.Reasons.{Reason, refused, stopped, unfinished, waiting, missing, started, Explained}
-use Rattle.diagnosis.specs.Monitor.{closed, opened, heard, explained, diagnosis, isOpen}
+use Rattle.diagnosis.specs.Monitor.{closed, opened, heard, hasRoom, hearing, explained, diagnosis, isOpen}
 use Rattle.diagnosis.specs.Monitor as monitor
 use Rattle.diagnosis.specs.declared.Monitor.{Monitor}
 use Rattle.diagnosis.specs.declared.Verdict.{Verdict}
 use Rattle.diagnosis.specs.declared.Verdict.the-variants.{Refused, Stopped}
 use Rattle.diagnosis.specs.declared.Refusal.the-variants.{RecordLength, RamSize, FromFlash}
 use Rattle.head.specs.declared.Stop.the-variants.{UnknownType}
-use Rattle.reasons.specs.Meaning.{Lent, FrameAt, BadHeader, Holds, record-length, ram-size, from-flash, unknown-type, bad-header, bad-command, bad-length, bad-digest, is-unfinished, is-waiting, is-missing, has-started}
-use Rattle.reasons.specs.Theorems.{reasonFor, goesOn, Hears, endsOf, endIn, Hearing, Diagnoses}
-use Rattle.reasons.proofs.Exclusive.{one-reason}
+use Rattle.reasons.specs.Meaning.{Loads, needed, Lent, FrameAt, BadHeader, Holds, record-length, ram-size, from-flash, unknown-type, bad-header, bad-command, bad-length, bad-digest, is-unfinished, is-waiting, is-missing, has-started}
+use Rattle.reasons.specs.Theorems.{reasonFor, goesOn, Stands, isMeasured, Hears, endsOf, endIn, Hearing, Diagnoses}
+use Rattle.reasons.proofs.Next.{Onward, compare}
+use Rattle.reasons.proofs.Exclusive.{shape-of, one-reason}
+use Rattle.reasons.proofs.Places.{one-count}
 use Rattle.reasons.proofs.Hashing.{hashed-nothing}
 use Rattle.reasons.proofs.Following.{seen, Follows}
-use Rattle.reasons.proofs.Monitors.{reasonIn, by-begun, heard-both, heard-after, open-goes, no-earlier}
-use Rattle.reasons.proofs.Walks.{Tells, walk}
-use Rattle.reasons.proofs.Existing.{Heard, hearing}
+use Rattle.reasons.proofs.Monitors.{reasonIn, by-begun, heard-both, heard-after, bytes-counted, frames-counted, open-goes, no-earlier}
+use Rattle.reasons.proofs.Walks.{Measured, Tells, walk}
+use Rattle.reasons.proofs.Examples.{comes-up}
+use Rattle.reasons.proofs.Existing.{Heard, hears-all}
 
 -- the reason, by what was heard
 told : (rec : List ℕ) (m : ℕ) (bytes : List ℕ) → reasonFor rec m bytes ≡ reasonIn (heard (monitor.begun rec m) bytes)
 unfolding diagnosis explained
 told rec m bytes = refl
+
+-- what is claimed of a monitor that has heard these bytes
+record Claims (rec : List ℕ) (m : ℕ) (bytes : List ℕ) (w : Monitor) : Type 0 where
+  holds : Holds rec m bytes (reasonIn w)
+  stands : 1 ≤ w .position .byte → Stands bytes (w .position .byte) (w .position .frame) (w .position .offset)
+  measured : isMeasured (reasonIn w) ≡ true → Measured m bytes w
 
 -- a verdict that comes before any byte
 closed-heard : (v : Verdict) (bytes : List ℕ) → isOpen v ≡ false → heard (closed v) bytes ≡ closed v
@@ -68,13 +82,18 @@ module _ (R : Reset) (lent : Admitted R) (client : AsksClient R) where
       known′ t (inr e) = omega arith
 
   first-follows : (f : Fresh R) → Follows R [] [] (begun R .state) first
-  unfolding opened
+  unfolding opened flatten
   first-follows f =
       record {
         live = refl;
         head = sym (ap (λ (s : State). seen R s) (f .state));
         hash = λ g. absurd (no-load m [] tt (g .opening) (g .load) (g .blocks) (g .loads) (g .order));
-        count = refl;
+        placed =
+            record {
+              count = refl;
+              frames = λ fs p x. one-count [] [] fs [] p (record { reads = refl; all-good = tt; partial = tt }) x;
+              stands = λ more n. absurd (omega arith);
+            };
       }
 
   -- what the monitor tells of a session that hears these bytes, whatever the RAM of its first acting holds
@@ -95,7 +114,7 @@ module _ (R : Reset) (lent : Admitted R) (client : AsksClient R) where
     heard-by : Heard uds typed R eight bytes ram (log (begun R .state) (callsFor uds typed bytes (begun R .state) ram))
     heard-by =
         let f = fresh R (begin-accepted R .1 lent) client in
-        hearing uds typed R eight bytes [] [] (begun R .state) ram (first-live R ram f) (first-runs R f) same
+        hears-all uds typed R eight bytes [] [] (begun R .state) ram (first-live R ram f) (first-runs R f) same
 
     pub exists : Hearing R ram bytes
     exists =
@@ -114,8 +133,10 @@ module _ (R : Reset) (lent : Admitted R) (client : AsksClient R) where
           hears = heard-by .hears;
         }
 
-    holds-heard : Holds (R .rec) m bytes (reasonIn (heard first bytes))
-    holds-heard = tells ram (callsFor uds typed bytes (begun R .state) ram) bytes (heard-by .hears) (heard-by .one-ram) .holds
+    claims-heard : Claims (R .rec) m bytes (heard first bytes)
+    claims-heard =
+        let t = tells ram (callsFor uds typed bytes (begun R .state) ram) bytes (heard-by .hears) (heard-by .one-ram) in
+        record { holds = t .holds; stands = t .stands; measured = t .measured }
 
 -- ---- the reason holds
 
@@ -147,19 +168,26 @@ admits rec m l =
 
 -- where the verdict comes before any byte
 early : (rec : List ℕ) (m : ℕ) (bytes : List ℕ) (v : Verdict) → isOpen v ≡ false → Holds rec m bytes (reasonIn (closed v))
-    → Holds rec m bytes (reasonIn (heard (closed v) bytes))
-early rec m bytes v e h = subst (λ (w : Monitor). Holds rec m bytes (reasonIn w)) (sym (closed-heard v bytes e)) h
+    → isMeasured (reasonIn (closed v)) ≡ false → Claims rec m bytes (heard (closed v) bytes)
+unfolding closed
+early rec m bytes v e h n =
+    subst (Claims rec m bytes) (sym (closed-heard v bytes e))
+    (record { holds = h; stands = λ l. absurd (omega arith); measured = λ t. never (sym t ∙ n) })
+
+claims : (rec : List ℕ) (m : ℕ) (bytes : List ℕ) → Claims rec m bytes (heard (monitor.begun rec m) bytes)
+unfolding closed
+claims rec m bytes =
+    by-begun rec m (λ (w : Monitor). Claims rec m bytes (heard w bytes))
+    (λ n. early rec m bytes (Refused RecordLength) refl (record-length n) refl)
+    (λ e n. early rec m bytes (Refused RamSize) refl (ram-size e n) refl)
+    (λ l t. early rec m bytes (Refused FromFlash) refl (from-flash l t) refl)
+    (λ a.
+    subst (λ (k : ℕ). Claims rec k bytes (heard (opened (recordAt rec) k) bytes)) (length-zeros m)
+    (claims-heard (resetOf rec m) (admits rec m (a .lent)) (a .client) (zeros m) (zeros 8) bytes refl refl (zero-words 8)))
+    (λ l t. early rec m bytes (Stopped UnknownType) refl (unknown-type l t) refl)
 
 holds : (rec : List ℕ) (m : ℕ) (bytes : List ℕ) → Holds rec m bytes (reasonFor rec m bytes)
-unfolding closed
-holds rec m bytes =
-    subst (Holds rec m bytes) (sym (told rec m bytes))
-    (by-begun rec m (λ (w : Monitor). Holds rec m bytes (reasonIn (heard w bytes)))
-    (λ n. early rec m bytes (Refused RecordLength) refl (record-length n)) (λ e n. early rec m bytes (Refused RamSize) refl (ram-size e n)) (λ l t. early rec m bytes (Refused FromFlash) refl (from-flash l t))
-    (λ a.
-    subst (λ (k : ℕ). Holds rec k bytes (reasonIn (heard (opened (recordAt rec) k) bytes))) (length-zeros m)
-    (holds-heard (resetOf rec m) (admits rec m (a .lent)) (a .client) (zeros m) (zeros 8) bytes refl refl (zero-words 8)))
-    (λ l t. early rec m bytes (Stopped UnknownType) refl (unknown-type l t)))
+holds rec m bytes = subst (Holds rec m bytes) (sym (told rec m bytes)) (claims rec m bytes .holds)
 
 only : (rec : List ℕ) (m : ℕ) (bytes : List ℕ) (r : Reason) → Holds rec m bytes r → r ≡ reasonFor rec m bytes
 only rec m bytes r h = one-reason rec m bytes r (reasonFor rec m bytes) h (holds rec m bytes)
@@ -230,15 +258,17 @@ resets rec m l s k = (resetOf rec m, refl, length-zeros m, admits rec m (record 
 -- ---- earlier bytes and later ones
 
 -- nothing is counted before the first byte
-from-zero : (rec : List ℕ) (m : ℕ) → monitor.begun rec m .position .byte ≡ 0
+from-zero : (rec : List ℕ) (m : ℕ) → (monitor.begun rec m .position .byte ≡ 0) × (monitor.begun rec m .position .frame ≡ 0)
 unfolding closed opened
-from-zero rec m = by-begun rec m (λ (w : Monitor). w .position .byte ≡ 0) (λ n. refl) (λ e n. refl) (λ l t. refl) (λ a. refl) (λ l t. refl)
+from-zero rec m =
+    by-begun rec m (λ (w : Monitor). (w .position .byte ≡ 0) × (w .position .frame ≡ 0)) (λ n. (refl, refl)) (λ e n. (refl, refl)) (λ l t. (refl, refl))
+    (λ a. (refl, refl)) (λ l t. (refl, refl))
 
 first-end : (rec : List ℕ) (m : ℕ) (bytes : List ℕ) (k i : ℕ) → reasonFor rec m bytes ≡ stopped k i → (j : ℕ) → j < i
     → goesOn (reasonFor rec m (take j bytes)) ≡ true
 first-end rec m bytes k i e j l =
     let w = monitor.begun rec m in
-    ap goesOn (told rec m (take j bytes)) ∙ open-goes (heard w (take j bytes)) ∙ no-earlier w bytes (from-zero rec m) k i j (sym (told rec m bytes) ∙ e) l
+    ap goesOn (told rec m (take j bytes)) ∙ open-goes (heard w (take j bytes)) ∙ no-earlier w bytes (from-zero rec m .0) k i j (sym (told rec m bytes) ∙ e) l
 
 later : (rec : List ℕ) (m : ℕ) (bytes more : List ℕ) → goesOn (reasonFor rec m bytes) ≡ false → diagnosis rec m (bytes ++ more) ≡ diagnosis rec m bytes
 unfolding diagnosis
@@ -310,6 +340,49 @@ rest rec m bytes more k i e =
     sym (only rec m (take i bytes ++ more) (stopped k i)
     (subst (Holds rec m (take i bytes ++ more)) e (holds-up-to rec m bytes more (reasonFor rec m bytes) (holds rec m bytes) k i e)))
 
+-- ---- the last byte that was read, and the digest
+
+stands : (rec : List ℕ) (m : ℕ) (bytes : List ℕ) → let d = diagnosis rec m bytes in 1 ≤ d .byte → Stands bytes (d .byte) (d .frame) (d .offset)
+unfolding diagnosis explained
+stands rec m bytes = claims rec m bytes .stands
+
+-- two loads of which all has come, in the same bytes, are one
+module _ (m : ℕ) (fs gs : List (List ℕ)) (l : Loads m fs) (k : Loads m gs) (el : length (l .blocks) ≡ needed m l) (ek : length (k .blocks) ≡ needed m k) where
+  abbrev Same : Type 0
+  Same = (l .load ≡ k .load) × (l .blocks ≡ k .blocks)
+
+  same-load : (t u : List ℕ) → Onward fs t gs u → Same
+  same-load t u o =
+      let e : own gs ≡ own fs ++ own (o .more) = ap own (o .frames) ∙ own-append fs (o .more) in
+      let x = grows m (own fs) (own (o .more)) (shape-of m l refl) (shape-of m k (sym e)) in
+      let n : length (l .blocks) + length (own (o .more)) ≡ length (k .blocks) = sym (length-append (l .blocks) (own (o .more))) ∙ ap length (x .1) in
+      let s : needed m l ≡ needed m k = ap (λ (f : List ℕ). blocksFor (sizeOf f)) (x .0) in
+      let z = empty-rest (own (o .more)) (omega arith) in
+      (x .0, sym (append-nil (l .blocks)) ∙ ap (λ (y : List (List ℕ)). l .blocks ++ y) (sym z) ∙ x .1)
+
+measured : (rec : List ℕ) (m : ℕ) (bytes : List ℕ) → isMeasured (reasonFor rec m bytes) ≡ true
+    → (fs : List (List ℕ)) (rest : List ℕ) → bytes ≡ flatten fs ++ rest → All Good fs → (l : Loads m fs) → length (l .blocks) ≡ needed m l
+    → diagnosis rec m bytes .digest ≡ digestOf (l .load) (l .blocks)
+unfolding diagnosis explained
+measured rec m bytes t fs rest e a l n =
+    let x = claims rec m bytes .measured t in
+    let s : Same m (x .frames) fs (x .load) l (x .all-came) n =
+    ⊎-elim (same-load m (x .frames) fs (x .load) l (x .all-came) n (x .after) rest)
+    (λ o. let y = same-load m fs (x .frames) l (x .load) n (x .all-came) rest (x .after) o in (sym (y .0), sym (y .1)))
+    (compare (x .frames) fs (x .after) rest (x .all-good) a (sym (x .reads) ∙ e)) in
+    x .digest ∙ rw (s .0, s .1)
+
+room : (rec : List ℕ) (m : ℕ) (xs ys : List ℕ) → length xs + length ys < 2 ^ 64
+    → hearing (heard (monitor.begun rec m) xs) ys ≡ record { taken = true; monitor = heard (monitor.begun rec m) (xs ++ ys) }
+unfolding hearing hasRoom
+room rec m xs ys l =
+    let w = monitor.begun rec m in
+    let z = from-zero rec m in
+    let b = bytes-counted w xs in
+    let f = frames-counted w xs in
+    rw (lt-ltb (heard w xs .position .byte + length ys) (2 ^ 64) (omega (arith, z .0)), lt-ltb (heard w xs .position .frame + length ys) (2 ^ 64) (omega (arith, z .1)))
+    (ap (λ (x : Monitor). record { taken = true; monitor = x }) (sym (heard-both w xs ys)))
+
 pub diagnoses : Diagnoses
 diagnoses =
     record {
@@ -323,4 +396,9 @@ diagnoses =
       first = first-end;
       later = later;
       rest = rest;
+      stands = stands;
+      measured = measured;
+      parts = heard-both;
+      room = room;
+      comes-up = comes-up;
     }

@@ -1,11 +1,12 @@
 -- The calls of a session that hears bytes, one after the other: what the monitor tells is true of the bytes, and it is the end that the session came to.
-use Prim.Native.Nat.{ℕ, _+_, _-_, _<_}
+use Prim.Native.Nat.{ℕ, suc, _+_, _-_, _≤_}
 use mathlib.Core.Path.{_≡_, refl, sym, ap, _∙_, subst}
 use mathlib.Core.Logic.{_↔_, _⊎_, inl, inr, ⊎-elim}
 use mathlib.Core.Bool.{Bool, true, false, cond}
 use mathlib.Core.List.{List, [], _∷_, _++_, append-assoc, append-nil, flatten}
 use native.Mathlib.Omega.{arith}
-use lib.ListN.{length, length-append}
+use lib.Dec.{eqb}
+use lib.ListN.{length}
 use borrow.Author.Tests.{ne-eqb, eq-eqb, le-ltb}
 use Rattle.endian.specs.Lists.{All}
 use Rattle.endian.proofs.Cases.{impossible}
@@ -15,7 +16,7 @@ use Rattle.head.specs.State.{isWhole, idle, ended}
 use Rattle.head.specs.Answers.{continues, whole, reportsWhole, stopNumber, Gathering, Outcome}
 use Rattle.head.specs.Answers as head
 use Rattle.head.specs.Begin.{waiting}
-use Rattle.head.specs.Gather.{Step, taken, byteStep, afterStep, gatherRefusal, gathered}
+use Rattle.head.specs.Gather.{Step, taken, bad, byteStep, afterStep, gatherRefusal, gathered}
 use Rattle.head.specs.Act.{requestOf, performed, acted}
 use Rattle.head.proofs.Ranges.{never}
 use Rattle.head.proofs.Admitted.{gather-admitted-as, act-admitted-as}
@@ -25,7 +26,7 @@ use Rattle.head.specs.declared.Progress.{Progress}
 use Rattle.head.specs.declared.State.{State}
 use Rattle.head.specs.declared.Stop.{Stop}
 use Rattle.head.specs.declared.Stop.the-variants.{HeaderBit}
-use Rattle.session.specs.Reading.{Good, Opens, own, sizeOf, typeOf, Allowed, Starting}
+use Rattle.session.specs.Reading.{Good, Opens, own, sizeOf, digestOf, typeOf, Allowed}
 use Rattle.session.specs.Session.{Reset, AsksClient, Admitted, Loan, Call, gather, act, Entry, gathers, acts, entryOf, reportIn, Among, log, isAccepted, accepted, OneRam}
 use Rattle.session.proofs.Resets.{AllowedOn, ReadsOn}
 use Rattle.session.proofs.Frames.{own-more}
@@ -39,21 +40,31 @@ use Rattle.session.proofs.Walk.{Answered}
 use Rattle.session.proofs.Begins.{Runs, number-is, overAfter, fullAfter, next-runs}
 use Rattle.diagnosis.specs.Reasons.{Reason, stopped, missing, started}
 use Rattle.diagnosis.specs.Reasons as reason
-use Rattle.diagnosis.specs.Monitor.{goingOn, byVerdict, frameHeard, moved, ruled, byReport, isOpen, heardByte, heard}
+use Rattle.diagnosis.specs.Monitor.{goingOn, byVerdict, frameHeard, positionAfter, moved, ruled, byReport, isOpen, heardByte, heard}
 use Rattle.diagnosis.specs.declared.Verdict.{Verdict}
 use Rattle.diagnosis.specs.declared.Verdict.the-variants.{Open, Stopped, Started}
 use Rattle.diagnosis.specs.declared.Position.{Position}
 use Rattle.diagnosis.specs.declared.Monitor.{Monitor}
-use Rattle.reasons.specs.Meaning.{Waits, Loads, Misses, Frames, FrameAt, Asks, Holds}
+use Rattle.reasons.specs.Meaning.{Waits, Loads, needed, Misses, FrameAt, Asks, Holds}
 use Rattle.reasons.specs.Meaning as meaning
-use Rattle.reasons.specs.Theorems.{Fits, Next, Hears, endAt, endsOf, endIn}
+use Rattle.reasons.specs.Theorems.{Stands, isMeasured, Fits, Next, Hears, endAt, endsOf, endIn}
+use Rattle.reasons.proofs.Places.{Reads, begun, one-count, reads-part, reads-whole, stands-next}
 use Rattle.reasons.proofs.Monitors.{reasonIn, heard-after}
-use Rattle.reasons.proofs.Following.{seen, Follows, heard-byte, watching, Due, Why, why-command, why-length, why-digest, Agrees, both-go, both-stop, both-start, both, frame-place}
+use Rattle.reasons.proofs.Following.{Placed, seen, Follows, heard-byte, watching, Due, Weighs, Why, why-command, why-length, why-digest, Agrees, both-go, both-stop, both-start, both, frame-place}
 
 -- a monitor by its fields
 pub monitor-is : (w : Monitor) (s : State) → w .verdict ≡ Open → w .head ≡ s
     → w ≡ record { head = s; hash = w .hash; position = w .position; verdict = Open; digest = w .digest }
 monitor-is w s e h = rw (← e, ← h)
+
+-- where there is no end nothing was measured
+unmeasured : (x : Reason) → [] ≡ endIn x → isMeasured x ≡ false
+unmeasured (reason.refused k) e = refl
+unmeasured (stopped k i) e = impossible cc
+unmeasured reason.unfinished e = refl
+unmeasured reason.waiting e = refl
+unmeasured (missing n) e = refl
+unmeasured started e = impossible cc
 
 -- calls that are all refused come to no end
 refused-end : (x : head.Report) (e : Entry) (es : List Entry) (i : ℕ) → cond (isAccepted x) (e ∷ es) es ≡ [] → (endAt x i ≡ []) × (es ≡ [])
@@ -102,6 +113,16 @@ no-start es e x = among-none _ (subst (Among (acts (x .loan) (x .out))) e (x .am
 not-started : (l : Loan) (o : Outcome) (e : Entry) → acts l o ≡ e → Answered o → (x : head.Report) → reportIn e ≡ x → endAt x 0 ≡ [] → ⊥
 not-started l o e q a x r z = let y : endAt (head.started (a .address) (a .size)) 0 ≡ [] = ap (λ (t : head.Report). endAt t 0) (sym (a .answers) ∙ ap reportIn q ∙ r) ∙ z in impossible cc
 
+-- these bytes carry all of a program, and its digest was measured
+pub record Measured (m : ℕ) (bytes : List ℕ) (w : Monitor) : Type 0 where
+  pub frames : List (List ℕ)
+  pub after : List ℕ
+  pub reads : bytes ≡ flatten frames ++ after
+  pub all-good : All Good frames
+  pub load : Loads m frames
+  pub all-came : length (load .blocks) ≡ needed m load
+  pub digest : w .digest ≡ digestOf (load .load) (load .blocks)
+
 module _ (R : Reset) (lent : Admitted R) (client : AsksClient R) where
   abbrev rec : List ℕ
   rec = R .rec
@@ -123,6 +144,8 @@ module _ (R : Reset) (lent : Admitted R) (client : AsksClient R) where
     pub ends : endsOf (length bs) es ≡ endIn (reasonIn w)
     pub holds : Holds rec m (bs ++ rest) (reasonIn w)
     pub starts : (reasonIn w ≡ started) ↔ StartIn es
+    pub stands : 1 ≤ w .position .byte → Stands (bs ++ rest) (w .position .byte) (w .position .frame) (w .position .offset)
+    pub measured : isMeasured (reasonIn w) ≡ true → Measured m (bs ++ rest) w
 
   -- ---- while the head goes on
 
@@ -193,6 +216,8 @@ module _ (R : Reset) (lent : Admitted R) (client : AsksClient R) where
         record {
           ends = c .0 ∙ ap endIn (sym e);
           starts = (λ q. absurd (not-empty (c .0 ∙ ap endIn (sym e ∙ q))), λ x. absurd (no-start [] refl x));
+          stands = f .placed .stands [];
+          measured = λ q. never (sym q ∙ unmeasured (reasonIn w) (c .0 ∙ ap endIn (sym e)));
           holds = subst (λ (x : List ℕ). Holds rec m x (reasonIn w)) (sym (append-nil bs)) (subst (Holds rec m bs) (sym e) (c .1));
         }
       where
@@ -216,10 +241,12 @@ module _ (R : Reset) (lent : Admitted R) (client : AsksClient R) where
   bad-byte q b s x (at-whole g o z) n = absurd (taken-stops (holding (q ++ b ∷ [])) s (ap (λ (y : Step). afterStep y s .report) (sym z) ∙ n))
 
   module _ (os : List (List ℕ)) (bs : List ℕ) (s : State) (r : List ℕ) (v : Live R os bs s r) (b : ℕ) (admits : gatherRefusal s ≡ 0) where
+    gathers-by : Gathers (v .part) b (byteStep (s .incoming) b)
+    gathers-by = subst (λ (t : State). Gathers (v .part) b (byteStep (t .incoming) b)) (sym (v .state)) (gathering.gathers (v .part) b (v .partial))
+
     bad-at : gathered s b .report ≡ head.stopped 22 → (v .part ≡ []) × (headerAt b ≡ stop 22)
     bad-at e =
-        bad-byte (v .part) b s (byteStep (s .incoming) b)
-        (subst (λ (t : State). Gathers (v .part) b (byteStep (t .incoming) b)) (sym (v .state)) (gathering.gathers (v .part) b (v .partial)))
+        bad-byte (v .part) b s (byteStep (s .incoming) b) gathers-by
         (ap (λ (g : Gathering). g .report) (gather-admitted-as s b (sym admits)) ∙ e)
 
     header-stops : (rest : List ℕ) → gathered s b .report ≡ head.stopped 22 → Holds rec m (bs ++ b ∷ rest) (stopped 22 (length bs + 1))
@@ -243,6 +270,9 @@ module _ (R : Reset) (lent : Admitted R) (client : AsksClient R) where
           place = ap (λ (x : List ℕ). length x + 1) w;
         })
 
+  bad-stops : (s : State) (b : ℕ) → gatherRefusal s ≡ 0 → byteStep (s .incoming) b ≡ bad → gathered s b .report ≡ head.stopped 22
+  bad-stops s b z e = ap (λ (g : Gathering). g .report) (sym (gather-admitted-as s b (sym z))) ∙ ap (λ (x : Step). afterStep x s .report) e
+
   -- ---- a whole frame
 
   module _ (os : List (List ℕ)) (f bs : List ℕ) (s : State) (r : List ℕ) (v : Full R os f bs s r) (rest : List ℕ) where
@@ -265,14 +295,32 @@ module _ (R : Reset) (lent : Admitted R) (client : AsksClient R) where
     by-phase W L (inl x) = inl (waits-for (v .frames) os (v .owned) (x .0), x .1)
     by-phase W L (inr x) = inr (misses-with (v .frames) os (v .owned) (x .0), x .1)
 
-    frame-stops : (k : Stop) → Why R os f k → Holds rec m (bs ++ rest) (stopped (stopNumber k) (length bs))
-    frame-stops k (why-command x) =
+    frame-stops : (w : Monitor) (k : Stop) → Why R os f w k → Holds rec m (bs ++ rest) (stopped (stopNumber k) (length bs))
+    frame-stops w k (why-command x) =
         meaning.bad-command asks (length bs) (record { at = frame-at; not-allowed = by-phase _ _ x })
-    frame-stops k (why-length x) =
+    frame-stops w k (why-length x) =
         meaning.bad-length asks (length bs) (record { at = frame-at; other-length = by-phase _ _ x })
-    frame-stops k (why-digest g n a) =
+    frame-stops w k (why-digest x a) =
         meaning.bad-digest asks (length bs)
-        (record { at = frame-at; load = loads-with (v .frames ++ f ∷ []) _ own-all g; all-came = n; barred = λ y. a (allowed-any [] _ _ y) })
+        (record { at = frame-at; load = loads-with (v .frames ++ f ∷ []) _ own-all (x .shape); all-came = x .all-came; barred = λ y. a (allowed-any [] _ _ y) })
+
+    weighed : (w : Monitor) → Weighs R os f w → Measured m (bs ++ rest) w
+    weighed w x =
+        record {
+          frames = v .frames ++ f ∷ [];
+          after = rest;
+          reads = ap (λ (y : List ℕ). y ++ rest) (v .whole);
+          all-good = v .all-good;
+          load = loads-with (v .frames ++ f ∷ []) _ own-all (x .shape);
+          all-came = x .all-came;
+          digest = x .digest;
+        }
+
+    -- of the stops only 25 comes after a measurement
+    stop-weighed : (w : Monitor) (k : Stop) → Why R os f w k → isMeasured (stopped (stopNumber k) (length bs)) ≡ true → Measured m (bs ++ rest) w
+    stop-weighed w k (why-command x) e = never (sym e)
+    stop-weighed w k (why-length x) e = never (sym e)
+    stop-weighed w k (why-digest x a) e = weighed w x
 
   start-holds : (bs rest : List ℕ) → ReadsOn R bs → Holds rec m (bs ++ rest) started
   start-holds bs rest w =
@@ -313,6 +361,8 @@ module _ (R : Reset) (lent : Admitted R) (client : AsksClient R) where
           λ q. start-later (gathers b g) es (t .starts .0 q),
           λ x. t .starts .1 (start-before (gathers b g) es (λ l o q a. impossible cc) x),
         );
+        stands = λ q. subst (λ (x : List ℕ). Stands x (w .position .byte) (w .position .frame) (w .position .offset)) (append-assoc bs (b ∷ []) rest) (t .stands q);
+        measured = λ q. subst (λ (x : List ℕ). Measured m x w) (append-assoc bs (b ∷ []) rest) (t .measured q);
       }
 
   act-first : (bs rest : List ℕ) (l : Loan) (o : Outcome) (es : List Entry) (w : Monitor) → o .report ≡ continues → Tells bs rest es w
@@ -325,6 +375,8 @@ module _ (R : Reset) (lent : Admitted R) (client : AsksClient R) where
           λ q. start-later (acts l o) es (t .starts .0 q),
           λ x. t .starts .1 (start-before (acts l o) es (λ k p q a. not-started k p (acts l o) q a continues e refl) x),
         );
+        stands = t .stands;
+        measured = t .measured;
       }
 
   -- the end of the session
@@ -366,10 +418,13 @@ module _ (R : Reset) (lent : Admitted R) (client : AsksClient R) where
         (both R (l .room) (l .ram) (l .uds) (fits .ram) (lent .ram-small) client os (w .hash) (w .position) (w .digest) (follows .hash) f (u .last-own)
         (All-last Good (u .frames) f [] (u .all-good)) (u .progress) (u .doing)))
 
+    placed : Placed bs (heard-frame .position)
+    placed = subst (Placed bs) (sym (frame-place (requestOf s) w)) (follows .placed)
+
     told : (k : Stop) → heard-frame .verdict ≡ Stopped k → reasonIn heard-frame ≡ stopped (stopNumber k) (length bs)
     told k e =
         ap (λ (x : Verdict). byVerdict x (heard-frame .head) (heard-frame .position .byte)) e
-        ∙ ap (stopped (stopNumber k)) (ap (λ (x : Position). x .byte) (frame-place (requestOf s) w) ∙ follows .count)
+        ∙ ap (stopped (stopNumber k)) (placed .count)
 
     start-among : (o : Outcome) (a n : ℕ) → o .report ≡ head.started a n → (es : List Entry) → Among (acts l o) (accepted (acts l o ∷ es))
     start-among o a n e es = subst (λ (x : head.Report). Among (acts l o) (cond (isAccepted x) (acts l o ∷ accepted es) (accepted es))) (sym e) (among-first (acts l o) (accepted es))
@@ -380,7 +435,7 @@ module _ (R : Reset) (lent : Admitted R) (client : AsksClient R) where
     acted-tells o (both-go e v2 hd hs) (goes-on q v n p) x h one =
         act-first bs rest l o _ _ e
         (next (os ++ f ∷ []) bs (o .state) (o .ram) heard-frame cs v
-        (record { live = v2; head = hd; hash = hs; count = ap (λ (y : Position). y .byte) (frame-place (requestOf s) w) ∙ follows .count }) (rw q at x) h one)
+        (record { live = v2; head = hd; hash = hs; placed = placed }) (rw q at x) h one)
     acted-tells o (both-go e v2 hd hs) (has-started d y z) x h one =
         let q : head.continues ≡ head.started _ _ = sym e ∙ y .report in
         impossible cc
@@ -397,52 +452,112 @@ module _ (R : Reset) (lent : Admitted R) (client : AsksClient R) where
         rw (heard-after heard-frame rest (ap isOpen v))
         record {
           ends = last-end (length bs) (log (o .state) cs) (o .report) (reasonIn heard-frame) (ap (λ (y : head.Report). endAt y (length bs)) e ∙ ap endIn (sym (told k v))) (nothing-stopped (o .state) m cs p);
-          holds = subst (Holds rec m (bs ++ rest)) (sym (told k v)) (frame-stops os f bs s (l .ram) u rest k why);
+          holds = subst (Holds rec m (bs ++ rest)) (sym (told k v)) (frame-stops os f bs s (l .ram) u rest heard-frame k why);
           starts = no-starts (acts l o) (log (o .state) cs) (stopNumber k) (length bs) (reasonIn heard-frame) e (told k v) (nothing-stopped (o .state) m cs p);
+          stands = placed .stands rest;
+          measured = λ y. stop-weighed os f bs s (l .ram) u rest heard-frame k why (ap isMeasured (sym (told k v)) ∙ y);
         }
-    acted-tells o (both-start a n e v) (goes-on q y j p) x h one =
+    acted-tells o (both-start a n e v x2) (goes-on q y j p) x h one =
         let z : head.started a n ≡ head.continues = sym e ∙ q in
         impossible cc
-    acted-tells o (both-start a n e v) (has-started d y z) x h one =
+    acted-tells o (both-start a n e v x2) (has-started d y z) x h one =
         let t : reasonIn heard-frame ≡ started = ap (λ (x : Verdict). byVerdict x (heard-frame .head) (heard-frame .position .byte)) v in
         rw (heard-after heard-frame rest (ap isOpen v))
         record {
           ends = last-end (length bs) (log (o .state) cs) (o .report) (reasonIn heard-frame) (ap (λ (y : head.Report). endAt y (length bs)) e ∙ ap endIn (sym t)) (nothing-started (o .state) m cs (y .state));
           holds = subst (Holds rec m (bs ++ rest)) (sym t) (start-holds bs rest d);
           starts = (λ q. record { loan = l; out = o; among = start-among o a n e (log (o .state) cs); answered = record { address = a; size = n; answers = e } }, λ x. t);
+          stands = placed .stands rest;
+          measured = λ y. weighed os f bs s (l .ram) u rest heard-frame x2;
         }
-    acted-tells o (both-start a n e v) (has-stopped k q p z) x h one =
+    acted-tells o (both-start a n e v x2) (has-stopped k q p z) x h one =
         let y : head.started a n ≡ head.stopped k = sym e ∙ q in
         impossible cc
 
   -- a byte b, and the calls after it
-  module _ (b : ℕ) (rest : List ℕ) (next : Rest rest) (os : List (List ℕ)) (bs : List ℕ) (s : State) (r : List ℕ) (w : Monitor) (follows : Follows R os bs s w)
-      (cs : List Call) where
-    -- the monitor after it, where the head goes on in the state t
-    now-follows : (t : State) → Follows R os (bs ++ b ∷ []) t (moved w (seen R t))
-    now-follows t = record { live = follows .live; head = refl; hash = follows .hash; count = ap (λ (i : ℕ). i + 1) (follows .count) ∙ sym (length-snoc bs b) }
+  module _ (b : ℕ) (rest : List ℕ) (next : Rest rest) (os : List (List ℕ)) (bs : List ℕ) (s : State) (r : List ℕ) (v : Live R os bs s r) (w : Monitor)
+      (follows : Follows R os bs s w) (cs : List Call) where
+    reads : Reads bs (v .frames) (v .part)
+    reads = record { reads = v .whole; all-good = v .all-good; partial = v .partial }
 
-    frame-tells : (g : Gathering) (f : List ℕ) → Full R os f (bs ++ b ∷ []) (g .state) r → Runs m (g .state) false true → (ds : List Call)
+    got-is : w .head .incoming .got ≡ length (v .part)
+    got-is = ap (λ (x : State). x .incoming .got) (follows .head ∙ ap (seen R) (v .state)) ∙ go (v .part)
+      where
+        go : (p : List ℕ) → holding p .got ≡ length p
+        go [] = refl
+        go (h ∷ p) = omega arith
+
+    abbrev next-place : Position
+    next-place = positionAfter (w .position) (w .head .incoming .got)
+
+    frame-is : next-place .frame ≡ length (v .frames) + 1
+    frame-is = rw (got-is, follows .placed .frames (v .frames) (v .part) reads) (go (v .part))
+      where
+        go : (p : List ℕ) → cond (eqb (length p) 0) (begun (v .frames) p + 1) (begun (v .frames) p) ≡ length (v .frames) + 1
+        go [] = refl
+        go (h ∷ p) = rw (ne-eqb (suc (length p)) 0 (λ z. omega arith))
+
+    count-is : next-place .byte ≡ length bs + 1
+    count-is = ap (λ (i : ℕ). i + 1) (follows .placed .count)
+
+    byte-stands : (more : List ℕ) → Stands (bs ++ b ∷ more) (next-place .byte) (next-place .frame) (next-place .offset)
+    byte-stands more =
+        subst (Stands (bs ++ b ∷ more) (next-place .byte) (next-place .frame)) (sym got-is)
+        (stands-next bs (v .frames) (v .part) b reads more (next-place .byte) (next-place .frame) count-is frame-is)
+
+    -- the byte is not a bad header: it goes on with the frame, or ends it
+    abbrev Reading : Type 0
+    Reading = (fs : List (List ℕ)) (p : List ℕ) → Reads (bs ++ b ∷ []) fs p → length (v .frames) + 1 ≡ begun fs p
+
+    byte-reads : (x : Step) → Gathers (v .part) b x → (x ≡ bad → ⊥) → Reading
+    byte-reads x (at-bad p e z) n fs q y = absurd (n z)
+    byte-reads x (at-part p z) n fs q y = grown (v .part) ∙ one-count (bs ++ b ∷ []) (v .frames) fs (v .part ++ b ∷ []) q (reads-part bs (v .frames) (v .part) b reads p) y
+      where
+        grown : (p : List ℕ) → length (v .frames) + 1 ≡ begun (v .frames) (p ++ b ∷ [])
+        grown [] = refl
+        grown (h ∷ p) = refl
+    byte-reads x (at-passed g o z) n fs q y =
+        sym (length-snoc (v .frames) (v .part ++ b ∷ [])) ∙ one-count (bs ++ b ∷ []) _ fs [] q (reads-whole bs (v .frames) (v .part) b reads g) y
+    byte-reads x (at-whole g o z) n fs q y =
+        sym (length-snoc (v .frames) (v .part ++ b ∷ [])) ∙ one-count (bs ++ b ∷ []) _ fs [] q (reads-whole bs (v .frames) (v .part) b reads g) y
+
+    -- the monitor after it, where the head goes on in the state t
+    now-follows : Reading → (t : State) → Follows R os (bs ++ b ∷ []) t (moved w (seen R t))
+    now-follows y t =
+        record {
+          live = follows .live;
+          head = refl;
+          hash = follows .hash;
+          placed =
+              record {
+                count = count-is ∙ sym (length-snoc bs b);
+                frames = λ fs p x. frame-is ∙ y fs p x;
+                stands = λ more n.
+                    subst (λ (z : List ℕ). Stands z (next-place .byte) (next-place .frame) (next-place .offset)) (sym (append-assoc bs (b ∷ []) more)) (byte-stands more);
+              };
+        }
+
+    frame-tells : Reading → (g : Gathering) (f : List ℕ) → Full R os f (bs ++ b ∷ []) (g .state) r → Runs m (g .state) false true → (ds : List Call)
         → Next m true (Hears m rest) (log (g .state) ds) → OneRam r (accepted (log (g .state) ds))
         → Tells (bs ++ b ∷ []) rest (log (g .state) ds) (heard (frameHeard (requestOf (g .state)) (moved w (seen R (g .state)))) rest)
-    frame-tells g f u x [] h one = absurd h
-    frame-tells g f u x (gather c ∷ ds) h one = absurd h
-    frame-tells g f u x (act l ∷ ds) h one =
+    frame-tells y g f u x [] h one = absurd h
+    frame-tells y g f u x (gather c ∷ ds) h one = absurd h
+    frame-tells y g f u x (act l ∷ ds) h one =
         let z : numberOf (g .state) (act l) ≡ 0 =
         number-is m (g .state) false true (act l) x
         ∙ rw (le-ltb (length (l .room)) 129 (h .0 .room), eq-eqb (length (l .ram)) m (h .0 .ram), eq-eqb (length (l .uds)) 8 (h .0 .uds)) in
         let o = acted (g .state) (l .room) (l .ram) (l .uds) in
         let a : OneRam r (acts l o ∷ accepted (log (o .state) ds)) = rw (call-taken (g .state) (act l) z) at one in
         let v = subst (Full R os f (bs ++ b ∷ []) (g .state)) (sym (a .0)) u in
-        acted-tells rest next os f (bs ++ b ∷ []) (g .state) l v (h .0) (moved w (seen R (g .state))) (now-follows (g .state)) ds o
-        (subst (λ (y : Outcome). Agrees R os f y (frameHeard (requestOf (g .state)) (moved w (seen R (g .state))))) (act-admitted-as (g .state) (l .room) (l .ram) (l .uds) (sym z))
-        (agree rest next os f (bs ++ b ∷ []) (g .state) l v (h .0) (moved w (seen R (g .state))) (now-follows (g .state)) ds))
+        acted-tells rest next os f (bs ++ b ∷ []) (g .state) l v (h .0) (moved w (seen R (g .state))) (now-follows y (g .state)) ds o
+        (subst (λ (z : Outcome). Agrees R os f z (frameHeard (requestOf (g .state)) (moved w (seen R (g .state))))) (act-admitted-as (g .state) (l .room) (l .ram) (l .uds) (sym z))
+        (agree rest next os f (bs ++ b ∷ []) (g .state) l v (h .0) (moved w (seen R (g .state))) (now-follows y (g .state)) ds))
         (after-act R os f (bs ++ b ∷ []) (g .state) l v z) (next-runs m (g .state) false true (act l) x) (h .1) (a .1)
 
     stop-tells : (g : Gathering) → g .report ≡ head.stopped 22 → g .state ≡ ended phase.Stopped m → Holds rec m (bs ++ b ∷ rest) (stopped 22 (length bs + 1))
         → Tells bs (b ∷ rest) (gathers b g ∷ log (g .state) cs) (heard (ruled (moved w (w .head)) (Stopped HeaderBit)) rest)
     stop-tells g e q h =
-        let t : stopped 22 (length bs + 1) ≡ stopped 22 (w .position .byte + 1) = ap (λ (i : ℕ). stopped 22 (i + 1)) (sym (follows .count)) in
+        let t : stopped 22 (length bs + 1) ≡ stopped 22 (w .position .byte + 1) = ap (λ (i : ℕ). stopped 22 (i + 1)) (sym (follows .placed .count)) in
         rw (heard-after (ruled (moved w (w .head)) (Stopped HeaderBit)) rest refl)
         record {
           ends =
@@ -450,23 +565,27 @@ module _ (R : Reset) (lent : Admitted R) (client : AsksClient R) where
               (ap (λ (y : head.Report). endAt y (length bs + 1)) e ∙ ap endIn t) (nothing-stopped (g .state) m cs q);
           holds = subst (Holds rec m (bs ++ b ∷ rest)) t h;
           starts = no-starts (gathers b g) (log (g .state) cs) 22 (w .position .byte + 1) (stopped 22 (w .position .byte + 1)) e refl (nothing-stopped (g .state) m cs q);
+          stands = λ n. byte-stands rest;
+          measured = λ n. never (sym n);
         }
 
-    byte-tells : (g : Gathering) → AfterGather R os (bs ++ b ∷ []) r g → (g .report ≡ head.stopped 22 → Holds rec m (bs ++ b ∷ rest) (stopped 22 (length bs + 1)))
+    byte-tells : (g : Gathering) → AfterGather R os (bs ++ b ∷ []) r g → ((g .report ≡ head.stopped 22 → ⊥) → Reading) → (g .report ≡ head.stopped 22 → Holds rec m (bs ++ b ∷ rest) (stopped 22 (length bs + 1)))
         → Runs m (g .state) (overAfter false (gathers b g)) (fullAfter false (gathers b g)) → Next m (reportsWhole (g .report)) (Hears m rest) (log (g .state) cs)
         → OneRam r (accepted (log (g .state) cs)) → Tells bs (b ∷ rest) (gathers b g ∷ log (g .state) cs) (heard (byReport (g .report) (seen R (g .state)) w) rest)
-    byte-tells g (unfinished e u n) k x h one =
+    byte-tells g (unfinished e u n) i k x h one =
+        let y = i (λ q. let z : continues ≡ head.stopped 22 = sym e ∙ q in impossible cc) in
         let j : Hears m rest (log (g .state) cs) = rw e at h in
-        subst (λ (y : head.Report). Tells bs (b ∷ rest) (gathers b g ∷ log (g .state) cs) (heard (byReport y (seen R (g .state)) w) rest)) (sym e)
+        subst (λ (z : head.Report). Tells bs (b ∷ rest) (gathers b g ∷ log (g .state) cs) (heard (byReport z (seen R (g .state)) w) rest)) (sym e)
         (gather-first bs rest b g (log (g .state) cs) (heard (moved w (seen R (g .state))) rest) (ap (λ (y : head.Report). endAt y (length bs + 1)) e)
-        (next os (bs ++ b ∷ []) (g .state) r (moved w (seen R (g .state))) cs u (now-follows (g .state)) (rw e at x) j one))
-    byte-tells g (complete e f u) k x h one =
+        (next os (bs ++ b ∷ []) (g .state) r (moved w (seen R (g .state))) cs u (now-follows y (g .state)) (rw e at x) j one))
+    byte-tells g (complete e f u) i k x h one =
+        let y = i (λ q. let z : whole ≡ head.stopped 22 = sym e ∙ q in impossible cc) in
         let j : Next m true (Hears m rest) (log (g .state) cs) = rw e at h in
-        subst (λ (y : head.Report). Tells bs (b ∷ rest) (gathers b g ∷ log (g .state) cs) (heard (byReport y (seen R (g .state)) w) rest)) (sym e)
+        subst (λ (z : head.Report). Tells bs (b ∷ rest) (gathers b g ∷ log (g .state) cs) (heard (byReport z (seen R (g .state)) w) rest)) (sym e)
         (gather-first bs rest b g (log (g .state) cs) (heard (frameHeard (requestOf (g .state)) (moved w (seen R (g .state)))) rest)
-        (ap (λ (y : head.Report). endAt y (length bs + 1)) e) (frame-tells g f u (rw e at x) cs j one))
-    byte-tells g (bad-header e q z) k x h one =
-        subst (λ (y : head.Report). Tells bs (b ∷ rest) (gathers b g ∷ log (g .state) cs) (heard (byReport y (seen R (g .state)) w) rest)) (sym e)
+        (ap (λ (y : head.Report). endAt y (length bs + 1)) e) (frame-tells y g f u (rw e at x) cs j one))
+    byte-tells g (bad-header e q z) i k x h one =
+        subst (λ (z : head.Report). Tells bs (b ∷ rest) (gathers b g ∷ log (g .state) cs) (heard (byReport z (seen R (g .state)) w) rest)) (sym e)
         (stop-tells g e q (k e))
 
   pub walk : (rest : List ℕ) → Rest rest
@@ -478,7 +597,9 @@ module _ (R : Reset) (lent : Admitted R) (client : AsksClient R) where
   walk (b ∷ rest) os bs s r w (gather c ∷ cs) v f x h one =
       let z : gatherRefusal s ≡ 0 = number-is m s false false (gather c) x in
       let e = heard-byte R os bs s w c f (x .ram) z in
-      let t = byte-tells c rest (walk rest) os bs s r w f cs (gathered s c) (after-gather R os bs s r v c z) (header-stops os bs s r v c z rest)
+      let t = byte-tells c rest (walk rest) os bs s r v w f cs (gathered s c) (after-gather R os bs s r v c z)
+      (λ n. byte-reads c rest (walk rest) os bs s r v w f cs (byteStep (s .incoming) c) (gathers-by os bs s r v c z) (λ q. n (bad-stops s c z q)))
+      (header-stops os bs s r v c z rest)
       (next-runs m s false false (gather c) x) (h .1) (one-later c (gathered s c) r (accepted (log (gathered s c .state) cs)) (isAccepted (gathered s c .report)) one) in
       subst (λ (y : ℕ). Tells bs (y ∷ rest) (gathers c (gathered s c) ∷ log (gathered s c .state) cs) (heard (heardByte w y) rest)) (h .0)
       (subst (λ (y : Monitor). Tells bs (c ∷ rest) (gathers c (gathered s c) ∷ log (gathered s c .state) cs) (heard y rest)) (sym e) t)

@@ -1,19 +1,25 @@
 -- What is proved of a diagnosis (change request 13): its reason is true of the bytes and the only one that is, and it is what the head did. The proof is
 -- `diagnoses` in proofs/Proved.antt.
-use Prim.Native.Nat.{ℕ, _+_, _<_, _≤_}
+use Prim.Native.Nat.{ℕ, _+_, _^_, _<_, _≤_}
 use mathlib.Core.Path.{_≡_}
 use mathlib.Core.Logic.{_↔_}
 use mathlib.Core.Bool.{Bool, true, false}
-use mathlib.Core.List.{List, [], _∷_, _++_}
-use lib.ListN.{length, take}
-use Rattle.endian.specs.Lists.{Words}
+use mathlib.Core.List.{List, [], _∷_, _++_, flatten}
+use lib.Dec.{eqb}
+use lib.ListN.{length, getD, take}
+use Rattle.endian.specs.Lists.{All, Words}
+use Rattle.framing.specs.Header.{headerAt, bodyLen}
+use Rattle.session.specs.Reading.{Good, digestOf}
 use Rattle.head.specs.Answers as head
 use Rattle.head.specs.Answers.{Report, reportsWhole}
 use Rattle.session.specs.Session.{Reset, begun, AsksClient, Admitted, Loan, Entry, gathers, acts, Session, ramLen, allOf}
 use Rattle.session.specs.Boot.{Started}
 use Rattle.diagnosis.specs.Reasons.{Reason, refused, stopped, unfinished, waiting, missing, started}
-use Rattle.diagnosis.specs.Monitor.{diagnosis}
-use Rattle.reasons.specs.Meaning.{Holds}
+use Rattle.diagnosis.specs.Monitor as monitor
+use Rattle.diagnosis.specs.Monitor.{heard, hearing, diagnosis}
+use Rattle.diagnosis.specs.declared.Monitor.{Monitor}
+use Rattle.reasons.specs.Meaning.{Loads, needed, Holds}
+use Rattle.reasons.specs.Examples.{Told, examples}
 
 -- the reason that a diagnosis tells
 abbrev pub reasonFor : List ℕ → ℕ → List ℕ → Reason
@@ -27,6 +33,28 @@ goesOn unfinished = true
 goesOn waiting = true
 goesOn (missing n) = true
 goesOn started = false
+
+-- where byte i stands: at this offset, from 0 for the header, of the frame with this number, from 1, those for other endpoints counted
+pub record Stands (bytes : List ℕ) (i frame offset : ℕ) : Type 0 where
+  -- whole good frames, and the bytes of the frame up to byte i
+  pub before : List (List ℕ)
+  pub part : List ℕ
+  pub rest : List ℕ
+  pub reads : bytes ≡ flatten before ++ (part ++ rest)
+  pub all-good : All Good before
+  pub one-frame : length part ≤ 1 + bodyLen (headerAt (getD part 0 0))
+  pub place : i ≡ length (flatten before ++ part)
+  pub number : frame ≡ length before + 1
+  pub offset-is : offset + 1 ≡ length part
+
+-- a program was measured
+abbrev pub isMeasured : Reason → Bool
+isMeasured (refused k) = false
+isMeasured (stopped k i) = eqb k 25
+isMeasured unfinished = false
+isMeasured waiting = false
+isMeasured (missing n) = false
+isMeasured started = true
 
 -- ---- the session of change request 13
 
@@ -105,3 +133,15 @@ pub record Diagnoses : Type 0 where
   -- and no byte after it, or after a start, matters
   pub later : (rec : List ℕ) (m : ℕ) (bytes more : List ℕ) → goesOn (reasonFor rec m bytes) ≡ false → diagnosis rec m (bytes ++ more) ≡ diagnosis rec m bytes
   pub rest : (rec : List ℕ) (m : ℕ) (bytes more : List ℕ) (k i : ℕ) → reasonFor rec m bytes ≡ stopped k i → reasonFor rec m (take i bytes ++ more) ≡ stopped k i
+  -- the last byte that was read stands where the diagnosis says
+  pub stands : (rec : List ℕ) (m : ℕ) (bytes : List ℕ) → let d = diagnosis rec m bytes in 1 ≤ d .byte → Stands bytes (d .byte) (d .frame) (d .offset)
+  -- the digest, at a start and at stop 25, is that of the program which the bytes carry, however they are read as whole good frames with all of it
+  pub measured : (rec : List ℕ) (m : ℕ) (bytes : List ℕ) → isMeasured (reasonFor rec m bytes) ≡ true
+      → (fs : List (List ℕ)) (rest : List ℕ) → bytes ≡ flatten fs ++ rest → All Good fs → (l : Loads m fs) → length (l .blocks) ≡ needed m l
+      → diagnosis rec m bytes .digest ≡ digestOf (l .load) (l .blocks)
+  -- bytes may be told in parts, and the counts have room for 2^64 - 1 of them
+  pub parts : (w : Monitor) (xs ys : List ℕ) → heard w (xs ++ ys) ≡ heard (heard w xs) ys
+  pub room : (rec : List ℕ) (m : ℕ) (xs ys : List ℕ) → length xs + length ys < 2 ^ 64
+      → hearing (heard (monitor.begun rec m) xs) ys ≡ record { taken = true; monitor = heard (monitor.begun rec m) (xs ++ ys) }
+  -- each reason comes up
+  pub comes-up : All Told examples
