@@ -17,7 +17,7 @@ use Rattle.session.proofs.Frames.{own-append, flatten-snoc, own-more}
 use Rattle.session.proofs.Shapes.{Shape, All-last}
 use Rattle.diagnosis.specs.Reasons.{Reason, refused, stopped, unfinished}
 use Rattle.reasons.specs.Meaning as meaning
-use Rattle.reasons.specs.Meaning.{Waits, Loads, Misses, TakenWaiting, TakenLoading, Frames, FrameAt, Lent, Asks, Holds, record-length, ram-size, from-flash, unknown-type, bad-header, bad-command, bad-length, bad-digest, is-unfinished, is-waiting, is-missing, has-started}
+use Rattle.reasons.specs.Meaning.{Waits, Loads, Misses, TakenWaiting, TakenLoading, Frames, Whole, FrameAt, Lent, Asks, Holds, record-length, ram-size, from-flash, unknown-type, bad-header, bad-command, bad-length, bad-digest, is-unfinished, is-waiting, is-missing, has-started}
 use Rattle.reasons.proofs.Next.{Next, nothing, bad, part, frame, next, next-bad, next-part, next-frame, Onward, compare}
 use Rattle.reasons.proofs.Closing.{All-front, Bars, by-command, by-length, a-load, a-block, Ends, for-load, for-blocks, one-end, Open, waits, misses, Ruled, starts, stops, Closes, bars, completes, one-closing, closed}
 
@@ -98,8 +98,10 @@ module _ (rec : List ℕ) (m : ℕ) (bytes : List ℕ) where
         kind = subst (λ (n : Next). Tail (x .before) n r) (sym e) t;
       }
 
-  nothing-left : {r : Reason} (fs : List (List ℕ)) → bytes ≡ flatten fs → All Good fs → Waits m fs ⊎ Misses m fs → Ends m (own fs) r → Cut r
-  nothing-left fs e a w t = at-end (record { before = fs; rest = []; reads = e ∙ sym (append-nil (flatten fs)); all-good = a; goes-on = w }) nothing refl t
+  nothing-left : {r : Reason} (x : Whole bytes) → Waits m (x .frames) ⊎ Misses m (x .frames) → Ends m (own (x .frames)) r → Cut r
+  nothing-left x w t =
+      let fs = x .frames in
+      at-end (record { before = fs; rest = []; reads = x .reads ∙ sym (append-nil (flatten fs)); all-good = x .all-good; goes-on = w }) nothing refl t
 
   -- a frame does
   module _ {i : ℕ} (x : FrameAt bytes i) where
@@ -161,9 +163,9 @@ module _ (rec : List ℕ) (m : ℕ) (bytes : List ℕ) where
   said r (bad-digest a i b) = asks a (completed (b .at) (b .load) (b .all-came) (stops (b .barred) refl))
   said r (is-unfinished a u) =
       asks a (at-end (u .frames) part (next-part (u .frames .rest) (u .id) (u .ep) (u .n) (u .header) (u .begun) (u .short)) refl)
-  said r (is-waiting a w) = asks a (nothing-left (w .frames) (w .reads) (w .all-good) (inl (w .waits)) (for-load (w .waits) refl))
+  said r (is-waiting a w) = asks a (nothing-left (w .whole) (inl (w .waits)) (for-load (w .waits) refl))
   said r (is-missing a k x) =
-      asks a (nothing-left (x .frames) (x .reads) (x .all-good) (inr (x .misses)) (for-blocks (shape-of m (x .misses .so-far) refl) k (x .count) refl))
+      asks a (nothing-left (x .whole) (inr (x .misses)) (for-blocks (shape-of m (x .misses .so-far) refl) k (x .count) refl))
   said r (has-started a s) =
       let w = s .starting in
       asks a (completed

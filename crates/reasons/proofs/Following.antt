@@ -1,5 +1,5 @@
 -- A monitor and the head that hears the same bytes: each byte and each whole frame lead both to the same, and a stop comes with its reason.
-use Prim.Native.Nat.{ℕ, suc, _+_, _*_, _<_, _≤_}
+use Prim.Native.Nat.{ℕ, _+_, _*_, _<_, _≤_}
 use mathlib.Core.Path.{_≡_, refl, sym, ap, _∙_, subst}
 use mathlib.Core.Logic.{_⊎_, inl, inr}
 use mathlib.Core.Bool.{Bool, true, false, cond}
@@ -16,16 +16,14 @@ use Rattle.protocol.specs.Commands.{loadIn, goodLoad, blocksFor, carriedBy, cou
 use Rattle.protocol.specs.Replies.{sent, putIn, blockReply, digestReply}
 use Rattle.protocol.proofs.Proved.{protocol}
 use Rattle.record.specs.Record.{recordAt}
-use Rattle.head.specs.State.{inRange, idle}
-use Rattle.head.specs.Answers.{continues, stopped, started, stopNumber, Gathering, Result, Outcome, replied}
+use Rattle.head.specs.State.{inRange}
+use Rattle.head.specs.Answers.{continues, stopped, started, stopNumber, Gathering, Outcome, replied}
 use Rattle.head.specs.Start.{ending, allowed, starting, decided}
 use Rattle.head.specs.Begin.{configOf, waiting}
 use Rattle.head.specs.Gather.{Step, taken, bad, byteStep, gatherRefusal, afterStep, gathered}
 use Rattle.head.specs.Act.{Request, asksName, asksUdi, givesLoad, givesBlock, halts, requestIn, requestOf, frameIn, between, loaded, loadOf, takes, loadAnswer, afterLoad, replying, storedIn, nextBlock, finishedWith, finished, actedBlock, performed}
 use Rattle.head.proofs.Ranges.{never, by-test, length-some}
 use Rattle.head.proofs.Admitted.{gather-admitted-as}
-use Rattle.head.specs.declared.Phase.the-variants as phase
-use Rattle.head.specs.declared.Config.{Config}
 use Rattle.head.specs.declared.Incoming.{Incoming}
 use Rattle.head.specs.declared.Progress.{Progress}
 use Rattle.head.specs.declared.State.{State}
@@ -38,7 +36,7 @@ use Rattle.session.proofs.Frames.{All-append, good-some}
 use Rattle.session.proofs.Gathering.{holding}
 use Rattle.session.proofs.Shapes.{Shape, one-shape, no-load, carried-snoc, carries-127, carried-length, load-size}
 use Rattle.session.proofs.Acting.{grows, at, loadedWith, Doing, is-waiting, is-loading, more, program-in, all-there, held-frame, held-body}
-use Rattle.diagnosis.specs.Monitor.{freshHash, onward, loadHeard, measured, blockHeard, frameHeard, moved, byReport, isOpen, heardByte}
+use Rattle.diagnosis.specs.Monitor.{freshHash, onward, loadHeard, measured, blockHeard, frameHeard, byReport, isOpen, heardByte}
 use Rattle.diagnosis.specs.declared.Verdict.{Verdict}
 use Rattle.diagnosis.specs.declared.Verdict.the-variants.{Open, Stopped, Started}
 use Rattle.diagnosis.specs.declared.Position.{Position}

@@ -6,6 +6,7 @@ pub mod Hashing
 pub mod Asked
 pub mod Following
 pub mod Monitors
+pub mod Ends
 pub mod Walks
 pub mod Existing
 pub mod Examples

@@ -23,7 +23,7 @@ use Rattle.head.specs.declared.Progress.{Progress}
 use Rattle.head.specs.declared.State.{State}
 use Rattle.session.specs.Reading.{typeOf}
 use Rattle.diagnosis.specs.Reasons.{Reason, stopped}
-use Rattle.diagnosis.specs.Monitor.{closed, opened, bySource, begun, positionAfter, moved, byReport, isOpen, heardByte, heard, byPhase, goingOn, byVerdict}
+use Rattle.diagnosis.specs.Monitor.{closed, opened, bySource, begun, positionAfter, moved, byReport, isOpen, heardByte, heard, byPhase, byVerdict}
 use Rattle.diagnosis.specs.declared.Refusal.the-variants.{RecordLength, RamSize, FromFlash}
 use Rattle.diagnosis.specs.declared.Verdict.{Verdict}
 use Rattle.diagnosis.specs.declared.Verdict.the-variants.{Open, Refused, Stopped, Started}

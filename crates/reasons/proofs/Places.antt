@@ -1,5 +1,5 @@
 -- Bytes read as whole good frames and the part of one more, in one way; and where the last of them stands.
-use Prim.Native.Nat.{ℕ, suc, _+_, _<_, _≤_}
+use Prim.Native.Nat.{ℕ, suc, _+_, _≤_}
 use mathlib.Core.Path.{_≡_, refl, sym, ap, _∙_}
 use mathlib.Core.Logic.{⊎-elim}
 use mathlib.Core.List.{List, [], _∷_, _++_, append-assoc, append-nil, flatten}
@@ -13,7 +13,7 @@ use Rattle.session.specs.Reading.{Good}
 use Rattle.session.proofs.Frames.{All-append, flatten-snoc}
 use Rattle.session.proofs.Gathering.{Partial, length-snoc}
 use Rattle.reasons.specs.Theorems.{Stands}
-use Rattle.reasons.proofs.Next.{Next, nothing, part, frame, next, next-frame, Onward, compare}
+use Rattle.reasons.proofs.Next.{part, frame, next, next-frame, Onward, compare}
 
 -- whole good frames, and the part of one that is not whole
 pub record Reads (bs : List ℕ) (fs : List (List ℕ)) (p : List ℕ) : Type 0 where

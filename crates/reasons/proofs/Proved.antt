@@ -16,7 +16,7 @@ use Rattle.head.specs.Begin.{flashOf}
 use Rattle.session.specs.Reading.{Good, own, sizeOf, digestOf, typeOf}
 use Rattle.session.specs.Session.{Reset, begun, AsksClient, Admitted, Call, Entry, log, accepted, OneRam, Session, ramLen, allOf}
 use Rattle.session.specs.Boot.{Started}
-use Rattle.session.proofs.Begins.{Fresh, begin-accepted, fresh, unknown-halts}
+use Rattle.session.proofs.Begins.{Fresh, begin-accepted, fresh}
 use Rattle.session.proofs.Proved.{first-live, first-runs, begins, verified-boot}
 use Rattle.session.proofs.Sending.{callsFor}
 use Rattle.session.proofs.Frames.{own-append}
@@ -25,7 +25,7 @@ use Rattle.session.proofs.Acting.{empty-rest, grows}
 use Rattle.protocol.specs.Commands.{blocksFor}
 use Rattle.head.proofs.Ranges.{never}
 use Rattle.head.specs.declared.State.{State}
-use Rattle.diagnosis.specs.Reasons.{Reason, refused, stopped, unfinished, waiting, missing, started, Explained}
+use Rattle.diagnosis.specs.Reasons.{Reason, refused, stopped, unfinished, waiting, missing, started}
 use Rattle.diagnosis.specs.Monitor.{closed, opened, heard, hasRoom, hearing, explained, diagnosis, isOpen}
 use Rattle.diagnosis.specs.Monitor as monitor
 use Rattle.diagnosis.specs.declared.Monitor.{Monitor}
@@ -38,10 +38,10 @@ use Rattle.reasons.specs.Theorems.{reasonFor, goesOn, Stands, isMeasured
 use Rattle.reasons.proofs.Next.{Onward, compare}
 use Rattle.reasons.proofs.Exclusive.{shape-of, one-reason}
 use Rattle.reasons.proofs.Places.{one-count}
-use Rattle.reasons.proofs.Hashing.{hashed-nothing}
 use Rattle.reasons.proofs.Following.{seen, Follows}
 use Rattle.reasons.proofs.Monitors.{reasonIn, by-begun, heard-both, heard-after, bytes-counted, frames-counted, open-goes, no-earlier}
-use Rattle.reasons.proofs.Walks.{Measured, Tells, walk}
+use Rattle.reasons.proofs.Ends.{Measured}
+use Rattle.reasons.proofs.Walks.{Tells, walk}
 use Rattle.reasons.proofs.Examples.{comes-up}
 use Rattle.reasons.proofs.Existing.{Heard, hears-all}
 

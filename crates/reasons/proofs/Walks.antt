@@ -15,7 +15,6 @@ use Rattle.protocol.specs.Commands.{blocksFor}
 use Rattle.head.specs.State.{isWhole, idle, ended}
 use Rattle.head.specs.Answers.{continues, whole, reportsWhole, stopNumber, Gathering, Outcome}
 use Rattle.head.specs.Answers as head
-use Rattle.head.specs.Begin.{waiting}
 use Rattle.head.specs.Gather.{Step, taken, bad, byteStep, afterStep, gatherRefusal, gathered}
 use Rattle.head.specs.Act.{requestOf, performed, acted}
 use Rattle.head.proofs.Ranges.{never}
@@ -26,102 +25,30 @@ use Rattle.head.specs.declared.Progress.{Progress}
 use Rattle.head.specs.declared.State.{State}
 use Rattle.head.specs.declared.Stop.{Stop}
 use Rattle.head.specs.declared.Stop.the-variants.{HeaderBit}
-use Rattle.session.specs.Reading.{Good, Opens, own, sizeOf, digestOf, typeOf, Allowed}
-use Rattle.session.specs.Session.{Reset, AsksClient, Admitted, Loan, Call, gather, act, Entry, gathers, acts, entryOf, reportIn, Among, log, isAccepted, accepted, OneRam}
-use Rattle.session.proofs.Resets.{AllowedOn, ReadsOn}
+use Rattle.session.specs.Reading.{Good, Opens, own, sizeOf, typeOf, Allowed}
+use Rattle.session.specs.Session.{Reset, AsksClient, Admitted, Loan, Call, gather, act, Entry, gathers, acts, reportIn, Among, log, isAccepted, accepted, OneRam}
+use Rattle.session.proofs.Resets.{ReadsOn}
 use Rattle.session.proofs.Frames.{own-more}
 use Rattle.session.proofs.Gathering.{holding, Partial, Gathers, at-bad, at-part, at-passed, at-whole, length-snoc}
 use Rattle.session.proofs.Gathering as gathering
 use Rattle.session.proofs.Shapes.{Shape, All-last}
-use Rattle.session.proofs.Acting.{at, Doing, is-waiting, is-loading, Leaves}
+use Rattle.session.proofs.Acting.{at, Doing, is-waiting, is-loading}
 use Rattle.session.proofs.Calls.{Live, Full, AfterGather, unfinished, complete, bad-header, after-gather, AfterAct, goes-on, has-started, has-stopped, after-act}
-use Rattle.session.proofs.Entries.{among-first, among-later, among-cases, among-none, numberOf, call-taken, nothing-started, nothing-stopped}
-use Rattle.session.proofs.Walk.{Answered}
+use Rattle.session.proofs.Entries.{among-first, numberOf, call-taken, nothing-started, nothing-stopped}
 use Rattle.session.proofs.Begins.{Runs, number-is, overAfter, fullAfter, next-runs}
-use Rattle.diagnosis.specs.Reasons.{Reason, stopped, missing, started}
-use Rattle.diagnosis.specs.Reasons as reason
+use Rattle.diagnosis.specs.Reasons.{Reason, stopped, started}
 use Rattle.diagnosis.specs.Monitor.{goingOn, byVerdict, frameHeard, positionAfter, moved, ruled, byReport, isOpen, heardByte, heard}
 use Rattle.diagnosis.specs.declared.Verdict.{Verdict}
-use Rattle.diagnosis.specs.declared.Verdict.the-variants.{Open, Stopped, Started}
+use Rattle.diagnosis.specs.declared.Verdict.the-variants.{Stopped}
 use Rattle.diagnosis.specs.declared.Position.{Position}
 use Rattle.diagnosis.specs.declared.Monitor.{Monitor}
-use Rattle.reasons.specs.Meaning.{Waits, Loads, needed, Misses, FrameAt, Asks, Holds}
+use Rattle.reasons.specs.Meaning.{Waits, Loads, Misses, Whole, FrameAt, Asks, Holds}
 use Rattle.reasons.specs.Meaning as meaning
 use Rattle.reasons.specs.Theorems.{Stands, isMeasured, Fits, Next, Hears, endAt, endsOf, endIn}
 use Rattle.reasons.proofs.Places.{Reads, begun, one-count, reads-part, reads-whole, stands-next}
 use Rattle.reasons.proofs.Monitors.{reasonIn, heard-after}
 use Rattle.reasons.proofs.Following.{Placed, seen, Follows, heard-byte, watching, Due, Weighs, Why, why-command, why-length, why-digest, Agrees, both-go, both-stop, both-start, both, frame-place}
-
--- a monitor by its fields
-pub monitor-is : (w : Monitor) (s : State) → w .verdict ≡ Open → w .head ≡ s
-    → w ≡ record { head = s; hash = w .hash; position = w .position; verdict = Open; digest = w .digest }
-monitor-is w s e h = rw (← e, ← h)
-
--- where there is no end nothing was measured
-unmeasured : (x : Reason) → [] ≡ endIn x → isMeasured x ≡ false
-unmeasured (reason.refused k) e = refl
-unmeasured (stopped k i) e = impossible cc
-unmeasured reason.unfinished e = refl
-unmeasured reason.waiting e = refl
-unmeasured (missing n) e = refl
-unmeasured started e = impossible cc
-
--- calls that are all refused come to no end
-refused-end : (x : head.Report) (e : Entry) (es : List Entry) (i : ℕ) → cond (isAccepted x) (e ∷ es) es ≡ [] → (endAt x i ≡ []) × (es ≡ [])
-refused-end (head.refused k) e es i q = (refl, q)
-refused-end head.continues e es i q = impossible cc
-refused-end head.whole e es i q = impossible cc
-refused-end (head.stopped k) e es i q = impossible cc
-refused-end (head.started a n) e es i q = impossible cc
-
-pub no-ends : (i : ℕ) (es : List Entry) → accepted es ≡ [] → endsOf i es ≡ []
-no-ends i [] q = refl
-no-ends i (gathers b g ∷ es) q =
-    let u = refused-end (g .report) (gathers b g) (accepted es) (i + 1) q in
-    ap (λ (x : List Reason). x ++ endsOf (i + 1) es) (u .0) ∙ no-ends (i + 1) es (u .1)
-no-ends i (acts l o ∷ es) q =
-    let u = refused-end (o .report) (acts l o) (accepted es) i q in
-    ap (λ (x : List Reason). x ++ endsOf i es) (u .0) ∙ no-ends i es (u .1)
-
--- an accepted acting of these answered a start
-pub record StartIn (es : List Entry) : Type 0 where
-  pub loan : Loan
-  pub out : Outcome
-  pub among : Among (acts loan out) (accepted es)
-  pub answered : Answered out
-
--- a gathering is none, and neither is an acting after which the session goes on
-start-later : (e : Entry) (es : List Entry) → StartIn es → StartIn (e ∷ es)
-start-later e es x = record { loan = x .loan; out = x .out; among = more (isAccepted (reportIn e)); answered = x .answered }
-  where
-    more : (t : Bool) → Among (acts (x .loan) (x .out)) (cond t (e ∷ accepted es) (accepted es))
-    more true = among-later e _ (accepted es) (x .among)
-    more false = x .among
-
-start-before : (e : Entry) (es : List Entry) → ((l : Loan) (o : Outcome) → acts l o ≡ e → Answered o → ⊥) → StartIn (e ∷ es) → StartIn es
-start-before e es n x =
-    record { loan = x .loan; out = x .out; among = go (isAccepted (reportIn e)) (x .among); answered = x .answered }
-  where
-    go : (t : Bool) → Among (acts (x .loan) (x .out)) (cond t (e ∷ accepted es) (accepted es)) → Among (acts (x .loan) (x .out)) (accepted es)
-    go true i = ⊎-elim (λ q. absurd (n (x .loan) (x .out) q (x .answered))) (λ j. j) (among-cases e _ (accepted es) i)
-    go false i = i
-
-no-start : (es : List Entry) → accepted es ≡ [] → StartIn es → ⊥
-no-start es e x = among-none _ (subst (Among (acts (x .loan) (x .out))) e (x .among))
-
--- a start is no other report
-not-started : (l : Loan) (o : Outcome) (e : Entry) → acts l o ≡ e → Answered o → (x : head.Report) → reportIn e ≡ x → endAt x 0 ≡ [] → ⊥
-not-started l o e q a x r z = let y : endAt (head.started (a .address) (a .size)) 0 ≡ [] = ap (λ (t : head.Report). endAt t 0) (sym (a .answers) ∙ ap reportIn q ∙ r) ∙ z in impossible cc
-
--- these bytes carry all of a program, and its digest was measured
-pub record Measured (m : ℕ) (bytes : List ℕ) (w : Monitor) : Type 0 where
-  pub frames : List (List ℕ)
-  pub after : List ℕ
-  pub reads : bytes ≡ flatten frames ++ after
-  pub all-good : All Good frames
-  pub load : Loads m frames
-  pub all-came : length (load .blocks) ≡ needed m load
-  pub digest : w .digest ≡ digestOf (load .load) (load .blocks)
+use Rattle.reasons.proofs.Ends.{monitor-is, unmeasured, no-ends, StartIn, start-later, start-before, no-start, not-started, Measured}
 
 module _ (R : Reset) (lent : Admitted R) (client : AsksClient R) where
   abbrev rec : List ℕ
@@ -168,41 +95,46 @@ module _ (R : Reset) (lent : Admitted R) (client : AsksClient R) where
     abbrev Claims : Reason → Type 0
     Claims x = ([] ≡ endIn x) × Holds rec m bs x
 
+    abbrev whole-frames : bs ≡ flatten (v .frames) → Whole bs
+    whole-frames e = record { frames = v .frames; reads = e; all-good = v .all-good }
+
     between-frames : bs ≡ flatten (v .frames) → (p : Progress) → Doing R r os p → Claims (goingOn (at R (holding []) p))
     between-frames e p (is-waiting a) =
-        (refl, meaning.is-waiting asks (record { frames = v .frames; reads = e; all-good = v .all-good; waits = waits-for (v .frames) os (v .owned) a }))
+        (refl, meaning.is-waiting asks (record { whole = whole-frames e; waits = waits-for (v .frames) os (v .owned) a }))
     between-frames e p (is-loading g due t) =
         let n = blocksFor (sizeOf (g .load)) in
-        let k = length (g .blocks) in
-        (refl, meaning.is-missing asks (n - k)
-        (record {
-          frames = v .frames;
-          reads = e;
-          all-good = v .all-good;
-          misses = misses-with (v .frames) os (v .owned) (record { shape = g; fewer = due });
-          count = omega (arith, due);
-        }))
+        let k = length (g .blocks) in (
+          refl,
+          meaning.is-missing asks (n - k)
+              (record {
+                whole = whole-frames e;
+                misses = misses-with (v .frames) os (v .owned) (record { shape = g; fewer = due });
+                count = omega (arith, due);
+              }),
+        )
 
     in-frame : (h : ℕ) (q : List ℕ) → Partial (h ∷ q) → bs ≡ flatten (v .frames) ++ h ∷ q → Claims (goingOn (at R (holding (h ∷ q)) (v .progress)))
     in-frame h q x e =
-        rw (ne-eqb (length q + 1) 0 (λ z. omega arith))
-        (refl, meaning.is-unfinished asks
-        (record {
-          frames =
-              record {
-                before = v .frames;
-                rest = h ∷ q;
-                reads = e;
-                all-good = v .all-good;
-                goes-on = goes-with (v .frames) os r (v .progress) (v .owned) (v .doing);
-              };
-          id = x .id;
-          ep = x .ep;
-          n = x .n;
-          header = x .header;
-          begun = omega arith;
-          short = omega (arith, x .short);
-        }))
+        rw (ne-eqb (length q + 1) 0 (λ z. omega arith)) (
+          refl,
+          meaning.is-unfinished asks
+              (record {
+                frames =
+                    record {
+                      before = v .frames;
+                      rest = h ∷ q;
+                      reads = e;
+                      all-good = v .all-good;
+                      goes-on = goes-with (v .frames) os r (v .progress) (v .owned) (v .doing);
+                    };
+                id = x .id;
+                ep = x .ep;
+                n = x .n;
+                header = x .header;
+                begun = omega arith;
+                short = omega (arith, x .short);
+              }),
+        )
 
     by-part : (q : List ℕ) → Partial q → bs ≡ flatten (v .frames) ++ q → Claims (goingOn (at R (holding q) (v .progress)))
     by-part [] x e = between-frames (e ∙ append-nil _) (v .progress) (v .doing)

@@ -68,7 +68,13 @@ pub record Asks (rec : List ℕ) (m : ℕ) : Type 0 where
   pub lent : Lent rec m
   pub client : (typeOf rec ≡ 4) ⊎ (typeOf rec ≡ 5)
 
--- whole good frames, and then a whole good frame for the firmware, the last byte of which is byte i
+-- whole good frames one after the other, with nothing left over
+pub record Whole (bytes : List ℕ) : Type 0 where
+  pub frames : List (List ℕ)
+  pub reads : bytes ≡ flatten frames
+  pub all-good : All Good frames
+
+-- whole good frames, and then one for the firmware, the last byte of which is byte i
 pub record FrameAt (bytes : List ℕ) (i : ℕ) : Type 0 where
   pub before : List (List ℕ)
   pub frame : List ℕ
@@ -118,17 +124,13 @@ module _ (m : ℕ) (bytes : List ℕ) where
 
   -- whole frames, and no good load
   pub record Waiting : Type 0 where
-    pub frames : List (List ℕ)
-    pub reads : bytes ≡ flatten frames
-    pub all-good : All Good frames
-    pub waits : Waits m frames
+    pub whole : Whole bytes
+    pub waits : Waits m (whole .frames)
 
   -- whole frames, and k blocks too few
   pub record Missing (k : ℕ) : Type 0 where
-    pub frames : List (List ℕ)
-    pub reads : bytes ≡ flatten frames
-    pub all-good : All Good frames
-    pub misses : Misses m frames
+    pub whole : Whole bytes
+    pub misses : Misses m (whole .frames)
     pub count : length (misses .so-far .blocks) + k ≡ needed m (misses .so-far)
 
 module _ (rec : List ℕ) (m : ℕ) (bytes : List ℕ) where

@@ -1,8 +1,7 @@
 -- What the copy leaves of the zeros.
-use mathlib.Core.Path.{_≡_, _∙_}
-use Prim.Native.Nat.{_≤_}
+use mathlib.Core.Path.{_∙_}
 use native.Mathlib.Omega.{arith}
-use lib.ListN.{length, take, length-take}
+use lib.ListN.{length-take}
 use Rattle.record.proofs.Fields.{filled}
 use borrow.Author.Needs.{needs}
 use Rattle.record.proofs.front.Statement.{statement}
