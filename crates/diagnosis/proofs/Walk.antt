@@ -24,7 +24,7 @@ use Rattle.diagnosis.specs.declared.Monitor.{Monitor}
 -- ---- the counts
 
 -- each is at most one more
-abbrev Near : Position → Position → Type 0
+abbrev pub Near : Position → Position → Type 0
 Near p q = (q .byte ≤ p .byte + 1) × (q .frame ≤ p .frame + 1)
 
 same-near : (p : Position) → Near p p
@@ -38,7 +38,7 @@ after-near p got = (omega arith, go (eqb got 0))
     go false = omega arith
 
 -- a frame is acted on where it became whole
-frame-stays : (r : Request) (w : Monitor) → frameHeard r w .position ≡ w .position
+pub frame-stays : (r : Request) (w : Monitor) → frameHeard r w .position ≡ w .position
 unfolding loadHeard blockHeard
 frame-stays asksName w = refl
 frame-stays asksUdi w = refl
@@ -55,7 +55,7 @@ report-near whole s w =
 report-near (stopped k) s w = after-near (w .position) (w .head .incoming .got)
 report-near (started address size) s w = same-near (w .position)
 
-byte-near : (w : Monitor) (b : ℕ) → Near (w .position) (heardByte w b .position)
+pub byte-near : (w : Monitor) (b : ℕ) → Near (w .position) (heardByte w b .position)
 unfolding heardByte
 byte-near w b =
     let g = gathered (w .head) b in
@@ -106,7 +106,7 @@ heard-all m bytes i h = rw (drop-of-length-le bytes h)
 
 -- ---- the beginning
 
-begun-nowhere : (rec : List ℕ) (m : ℕ) → begun rec m .position ≡ nowhere
+pub begun-nowhere : (rec : List ℕ) (m : ℕ) → begun rec m .position ≡ nowhere
 unfolding begun closed opened
 begun-nowhere rec m =
     by-test (λ (x : Monitor). x .position ≡ nowhere) (not (eqb (length rec) 256)) _ _ (λ t. refl)

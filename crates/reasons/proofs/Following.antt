@@ -21,8 +21,8 @@ use Rattle.head.specs.Answers.{continues, stopped, started, stopNumber, Gatheri
 use Rattle.head.specs.Start.{ending, allowed, starting, decided}
 use Rattle.head.specs.Begin.{configOf, waiting}
 use Rattle.head.specs.Gather.{Step, taken, bad, byteStep, gatherRefusal, afterStep, gathered}
-use Rattle.head.specs.Act.{Request, asksName, asksUdi, givesLoad, givesBlock, halts, requestIn, requestOf, frameIn, between, loaded, loadOf, takes, loadAnswer, afterLoad, replying, storedIn, nextBlock, finishedWith, finished, actedBlock, performed}
-use Rattle.head.proofs.Ranges.{never, by-test, length-some}
+use Rattle.head.specs.Act.{Request, givesLoad, givesBlock, requestIn, requestOf, frameIn, between, loaded, loadOf, takes, loadAnswer, afterLoad, replying, storedIn, nextBlock, finishedWith, finished, actedBlock, performed}
+use Rattle.head.proofs.Ranges.{never, length-some}
 use Rattle.head.proofs.Admitted.{gather-admitted-as}
 use Rattle.head.specs.declared.Incoming.{Incoming}
 use Rattle.head.specs.declared.Progress.{Progress}
@@ -280,13 +280,3 @@ module _ (R : Reset) where
         where
           first : forFirmware (h ∷ x ∷ y) ≡ true → getD (holding (h ∷ x ∷ y) .body) 0 0 ≡ x
           first e = rw e refl
-
--- a whole frame moves the place of the last byte nowhere
-pub frame-place : (r : Request) (w : Monitor) → frameHeard r w .position ≡ w .position
-unfolding loadHeard blockHeard
-frame-place asksName w = refl
-frame-place asksUdi w = refl
-frame-place givesLoad w = by-test (λ (x : Monitor). x .position ≡ w .position) (takes (w .head)) _ _ (λ t. refl) (λ t. refl)
-frame-place givesBlock w =
-    by-test (λ (x : Monitor). x .position ≡ w .position) (isLast (w .head .progress .size) (w .head .progress .block)) _ _ (λ t. refl) (λ t. refl)
-frame-place (halts k) w = refl

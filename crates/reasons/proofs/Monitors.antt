@@ -12,26 +12,21 @@ use Rattle.endian.proofs.Cases.{impossible}
 use Rattle.protocol.specs.Commands.{lengthOk}
 use Rattle.record.specs.Record.{Contents, knownType, recordAt}
 use Rattle.record.specs.Types.{sourceOf}
-use Rattle.head.specs.Answers as head
-use Rattle.head.specs.Gather.{gathered}
-use Rattle.head.specs.Act.{requestOf}
 use Rattle.head.proofs.Ranges.{never, by-test, length-facts}
 use Rattle.head.specs.declared.Phase.{Phase}
 use Rattle.head.specs.declared.Phase.the-variants as phase
 use Rattle.head.specs.declared.Stop.the-variants.{UnknownType}
 use Rattle.head.specs.declared.Progress.{Progress}
-use Rattle.head.specs.declared.State.{State}
 use Rattle.session.specs.Reading.{typeOf}
 use Rattle.diagnosis.specs.Reasons.{Reason, stopped}
-use Rattle.diagnosis.specs.Monitor.{closed, opened, bySource, begun, positionAfter, moved, byReport, isOpen, heardByte, heard, byPhase, byVerdict}
+use Rattle.diagnosis.specs.Monitor.{closed, opened, bySource, begun, isOpen, heardByte, heard, byPhase, byVerdict}
 use Rattle.diagnosis.specs.declared.Refusal.the-variants.{RecordLength, RamSize, FromFlash}
 use Rattle.diagnosis.specs.declared.Verdict.{Verdict}
 use Rattle.diagnosis.specs.declared.Verdict.the-variants.{Open, Refused, Stopped, Started}
-use Rattle.diagnosis.specs.declared.Position.{Position}
 use Rattle.diagnosis.specs.declared.Monitor.{Monitor}
 use Rattle.reasons.specs.Meaning.{Lent, Asks}
 use Rattle.reasons.specs.Theorems.{goesOn}
-use Rattle.reasons.proofs.Following.{frame-place}
+use Rattle.diagnosis.proofs.Walk.{byte-near, heard-ended}
 
 -- the reason that a monitor tells
 abbrev pub reasonIn : Monitor → Reason
@@ -86,44 +81,18 @@ heard-both w [] ys = refl
 heard-both w (b ∷ xs) ys = heard-both (heardByte w b) xs ys
 
 -- once the verdict has come no byte is read
-byte-after : (w : Monitor) (b : ℕ) → isOpen (w .verdict) ≡ false → heardByte w b ≡ w
-unfolding heardByte
-byte-after w b e = rw e
-
 pub heard-after : (w : Monitor) (bs : List ℕ) → isOpen (w .verdict) ≡ false → heard w bs ≡ w
-unfolding heard
-heard-after w [] e = refl
-heard-after w (b ∷ bs) e = ap (λ (x : Monitor). heard x bs) (byte-after w b e) ∙ heard-after w bs e
+heard-after w bs e = sym (heard-ended w bs e)
 
 -- at most as many bytes, and frames, are counted as bytes were heard
-module _ (count : Position → ℕ) (step : (q : Position) (got : ℕ) → count (positionAfter q got) ≤ count q + 1) where
-  counts : (x : head.Report) (s : State) (w : Monitor) → count (byReport x s w .position) ≤ count (w .position) + 1
-  counts (head.refused k) s w = omega arith
-  counts head.continues s w = step (w .position) (w .head .incoming .got)
-  counts head.whole s w = rw (frame-place (requestOf s) (moved w s)) (step (w .position) (w .head .incoming .got))
-  counts (head.stopped k) s w = step (w .position) (w .head .incoming .got)
-  counts (head.started a n) s w = omega arith
-
-  byte-counts : (w : Monitor) (b : ℕ) → count (heardByte w b .position) ≤ count (w .position) + 1
-  unfolding heardByte
-  byte-counts w b =
-      let g = gathered (w .head) b in
-      by-test (λ (x : Monitor). count (x .position) ≤ count (w .position) + 1) (isOpen (w .verdict)) _ _ (λ t. counts (g .report) (g .state) w) (λ t. omega arith)
-
-  heard-counts : (w : Monitor) (bs : List ℕ) → count (heard w bs .position) ≤ count (w .position) + length bs
-  unfolding heard
-  heard-counts w [] = omega arith
-  heard-counts w (b ∷ bs) = let h = heard-counts (heardByte w b) bs in let k = byte-counts w b in omega arith
-
-pub bytes-counted : (w : Monitor) (bs : List ℕ) → heard w bs .position .byte ≤ w .position .byte + length bs
-bytes-counted w bs = heard-counts (λ q. q .byte) (λ q got. omega arith) w bs
-
-pub frames-counted : (w : Monitor) (bs : List ℕ) → heard w bs .position .frame ≤ w .position .frame + length bs
-frames-counted w bs = heard-counts (λ q. q .frame) (λ q got. go q (eqb got 0)) w bs
-  where
-    go : (q : Position) (t : Bool) → cond t (q .frame + 1) (q .frame) ≤ q .frame + 1
-    go q true = omega arith
-    go q false = omega arith
+pub heard-counts : (w : Monitor) (bs : List ℕ)
+    → (heard w bs .position .byte ≤ w .position .byte + length bs) × (heard w bs .position .frame ≤ w .position .frame + length bs)
+unfolding heard
+heard-counts w [] = (omega arith, omega arith)
+heard-counts w (b ∷ bs) =
+    let h = heard-counts (heardByte w b) bs in
+    let n = byte-near w b in
+    (omega arith, omega arith)
 
 -- ---- what is told
 
@@ -167,6 +136,6 @@ no-earlier w bytes z k i j e l = go (isOpen (x .verdict)) refl
     go false q =
         let all : heard w bytes ≡ x = ap (heard w) (sym (take-append-drop j bytes)) ∙ heard-both w (take j bytes) (drop j bytes) ∙ heard-after x (drop j bytes) q in
         let b : x .position .byte ≡ i = ap (λ (y : Monitor). y .position .byte) (sym all) ∙ stop-byte (heard w bytes) k i e in
-        let c : x .position .byte ≤ w .position .byte + length (take j bytes) = bytes-counted w (take j bytes) in
+        let c : x .position .byte ≤ w .position .byte + length (take j bytes) = heard-counts w (take j bytes) .0 in
         let n = length-take j bytes in
         absurd (omega arith)

@@ -28,7 +28,9 @@ use Rattle.head.specs.declared.State.{State}
 use Rattle.diagnosis.specs.Reasons.{Reason, refused, stopped, unfinished, waiting, missing, started}
 use Rattle.diagnosis.specs.Monitor.{closed, opened, heard, hasRoom, hearing, explained, diagnosis, isOpen}
 use Rattle.diagnosis.specs.Monitor as monitor
+use Rattle.diagnosis.specs.declared.Position.{Position}
 use Rattle.diagnosis.specs.declared.Monitor.{Monitor}
+use Rattle.diagnosis.proofs.Walk.{begun-nowhere}
 use Rattle.diagnosis.specs.declared.Verdict.{Verdict}
 use Rattle.diagnosis.specs.declared.Verdict.the-variants.{Refused, Stopped}
 use Rattle.diagnosis.specs.declared.Refusal.the-variants.{RecordLength, RamSize, FromFlash}
@@ -39,7 +41,7 @@ use Rattle.reasons.proofs.Next.{Onward, compare}
 use Rattle.reasons.proofs.Exclusive.{shape-of, one-reason}
 use Rattle.reasons.proofs.Places.{one-count}
 use Rattle.reasons.proofs.Following.{seen, Follows}
-use Rattle.reasons.proofs.Monitors.{reasonIn, by-begun, heard-both, heard-after, bytes-counted, frames-counted, open-goes, no-earlier}
+use Rattle.reasons.proofs.Monitors.{reasonIn, by-begun, heard-both, heard-after, heard-counts, open-goes, no-earlier}
 use Rattle.reasons.proofs.Ends.{Measured}
 use Rattle.reasons.proofs.Walks.{Tells, walk}
 use Rattle.reasons.proofs.Examples.{comes-up}
@@ -257,18 +259,11 @@ resets rec m l s k = (resetOf rec m, refl, length-zeros m, admits rec m (record 
 
 -- ---- earlier bytes and later ones
 
--- nothing is counted before the first byte
-from-zero : (rec : List ℕ) (m : ℕ) → (monitor.begun rec m .position .byte ≡ 0) × (monitor.begun rec m .position .frame ≡ 0)
-unfolding closed opened
-from-zero rec m =
-    by-begun rec m (λ (w : Monitor). (w .position .byte ≡ 0) × (w .position .frame ≡ 0)) (λ n. (refl, refl)) (λ e n. (refl, refl)) (λ l t. (refl, refl))
-    (λ a. (refl, refl)) (λ l t. (refl, refl))
-
 first-end : (rec : List ℕ) (m : ℕ) (bytes : List ℕ) (k i : ℕ) → reasonFor rec m bytes ≡ stopped k i → (j : ℕ) → j < i
     → goesOn (reasonFor rec m (take j bytes)) ≡ true
 first-end rec m bytes k i e j l =
     let w = monitor.begun rec m in
-    ap goesOn (told rec m (take j bytes)) ∙ open-goes (heard w (take j bytes)) ∙ no-earlier w bytes (from-zero rec m .0) k i j (sym (told rec m bytes) ∙ e) l
+    ap goesOn (told rec m (take j bytes)) ∙ open-goes (heard w (take j bytes)) ∙ no-earlier w bytes (ap (λ (q : Position). q .byte) (begun-nowhere rec m)) k i j (sym (told rec m bytes) ∙ e) l
 
 later : (rec : List ℕ) (m : ℕ) (bytes more : List ℕ) → goesOn (reasonFor rec m bytes) ≡ false → diagnosis rec m (bytes ++ more) ≡ diagnosis rec m bytes
 unfolding diagnosis
@@ -377,10 +372,10 @@ room : (rec : List ℕ) (m : ℕ) (xs ys : List ℕ) → length xs + length ys <
 unfolding hearing hasRoom
 room rec m xs ys l =
     let w = monitor.begun rec m in
-    let z = from-zero rec m in
-    let b = bytes-counted w xs in
-    let f = frames-counted w xs in
-    rw (lt-ltb (heard w xs .position .byte + length ys) (2 ^ 64) (omega (arith, z .0)), lt-ltb (heard w xs .position .frame + length ys) (2 ^ 64) (omega (arith, z .1)))
+    let b : w .position .byte ≡ 0 = ap (λ (q : Position). q .byte) (begun-nowhere rec m) in
+    let f : w .position .frame ≡ 0 = ap (λ (q : Position). q .frame) (begun-nowhere rec m) in
+    let c = heard-counts w xs in
+    rw (lt-ltb (heard w xs .position .byte + length ys) (2 ^ 64) (omega arith), lt-ltb (heard w xs .position .frame + length ys) (2 ^ 64) (omega arith))
     (ap (λ (x : Monitor). record { taken = true; monitor = x }) (sym (heard-both w xs ys)))
 
 pub diagnoses : Diagnoses

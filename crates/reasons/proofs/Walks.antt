@@ -47,7 +47,8 @@ use Rattle.reasons.specs.Meaning as meaning
 use Rattle.reasons.specs.Theorems.{Stands, isMeasured, Fits, Next, Hears, endAt, endsOf, endIn}
 use Rattle.reasons.proofs.Places.{Reads, begun, one-count, reads-part, reads-whole, stands-next}
 use Rattle.reasons.proofs.Monitors.{reasonIn, heard-after}
-use Rattle.reasons.proofs.Following.{Placed, seen, Follows, heard-byte, watching, Due, Weighs, Why, why-command, why-length, why-digest, Agrees, both-go, both-stop, both-start, both, frame-place}
+use Rattle.reasons.proofs.Following.{Placed, seen, Follows, heard-byte, watching, Due, Weighs, Why, why-command, why-length, why-digest, Agrees, both-go, both-stop, both-start, both}
+use Rattle.diagnosis.proofs.Walk.{frame-stays}
 use Rattle.reasons.proofs.Ends.{monitor-is, unmeasured, no-ends, StartIn, start-later, start-before, no-start, not-started, Measured}
 
 module _ (R : Reset) (lent : Admitted R) (client : AsksClient R) where
@@ -351,7 +352,7 @@ module _ (R : Reset) (lent : Admitted R) (client : AsksClient R) where
         (All-last Good (u .frames) f [] (u .all-good)) (u .progress) (u .doing)))
 
     placed : Placed bs (heard-frame .position)
-    placed = subst (Placed bs) (sym (frame-place (requestOf s) w)) (follows .placed)
+    placed = subst (Placed bs) (sym (frame-stays (requestOf s) w)) (follows .placed)
 
     told : (k : Stop) → heard-frame .verdict ≡ Stopped k → reasonIn heard-frame ≡ stopped (stopNumber k) (length bs)
     told k e =
