@@ -114,7 +114,7 @@ open-goes w = go (w .verdict)
     go Started = refl
 
 -- the byte of a stop is the last that was read
-stop-byte : (w : Monitor) (k i : ℕ) → reasonIn w ≡ stopped k i → w .position .byte ≡ i
+pub stop-byte : (w : Monitor) (k i : ℕ) → reasonIn w ≡ stopped k i → w .position .byte ≡ i
 stop-byte w k i e = go (w .verdict) refl e
   where
     go : (v : Verdict) → w .verdict ≡ v → byVerdict v (w .head) (w .position .byte) ≡ stopped k i → w .position .byte ≡ i
@@ -123,10 +123,10 @@ stop-byte w k i e = go (w .verdict) refl e
     go (Stopped s) q e = cc
     go Started q e = impossible cc
 
--- no byte before it gave an end
-pub no-earlier : (w : Monitor) (bytes : List ℕ) → w .position .byte ≡ 0 → (k i j : ℕ) → reasonIn (heard w bytes) ≡ stopped k i → j < i
+-- no byte before the last that was read gave an end
+pub no-earlier : (w : Monitor) (bytes : List ℕ) → w .position .byte ≡ 0 → (j : ℕ) → j < heard w bytes .position .byte
     → isOpen (heard w (take j bytes) .verdict) ≡ true
-no-earlier w bytes z k i j e l = go (isOpen (x .verdict)) refl
+no-earlier w bytes z j l = go (isOpen (x .verdict)) refl
   where
     x : Monitor
     x = heard w (take j bytes)
@@ -135,7 +135,7 @@ no-earlier w bytes z k i j e l = go (isOpen (x .verdict)) refl
     go true q = refl
     go false q =
         let all : heard w bytes ≡ x = ap (heard w) (sym (take-append-drop j bytes)) ∙ heard-both w (take j bytes) (drop j bytes) ∙ heard-after x (drop j bytes) q in
-        let b : x .position .byte ≡ i = ap (λ (y : Monitor). y .position .byte) (sym all) ∙ stop-byte (heard w bytes) k i e in
+        let b : x .position .byte ≡ heard w bytes .position .byte = ap (λ (y : Monitor). y .position .byte) (sym all) in
         let c : x .position .byte ≤ w .position .byte + length (take j bytes) = heard-counts w (take j bytes) .0 in
         let n = length-take j bytes in
         absurd (omega arith)

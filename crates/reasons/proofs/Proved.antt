@@ -9,11 +9,10 @@ use lib.ListN.{length, take, length-append, length-replicate}
 use lib.Seq.{take-append-seam}
 use borrow.Author.Tests.{lt-ltb}
 use Rattle.endian.specs.Lists.{zeros, All, Words}
-use Rattle.endian.proofs.Cases.{impossible}
 use Rattle.record.specs.Record.{recordAt}
 use Rattle.head.specs.Answers as head
 use Rattle.head.specs.Begin.{flashOf}
-use Rattle.session.specs.Reading.{Good, own, sizeOf, digestOf, typeOf}
+use Rattle.session.specs.Reading.{Good, own, sizeOf, digestOf, typeOf, Starting}
 use Rattle.session.specs.Session.{Reset, begun, AsksClient, Admitted, Call, Entry, log, accepted, OneRam, Session, ramLen, allOf}
 use Rattle.session.specs.Boot.{Started}
 use Rattle.session.proofs.Begins.{Fresh, begin-accepted, fresh}
@@ -42,6 +41,7 @@ use Rattle.reasons.proofs.Exclusive.{shape-of, one-reason}
 use Rattle.reasons.proofs.Places.{one-count}
 use Rattle.reasons.proofs.Following.{seen, Follows}
 use Rattle.reasons.proofs.Monitors.{reasonIn, by-begun, heard-both, heard-after, heard-counts, open-goes, no-earlier}
+use Rattle.reasons.proofs.Monitors as monitors
 use Rattle.reasons.proofs.Ends.{Measured}
 use Rattle.reasons.proofs.Walks.{Tells, walk}
 use Rattle.reasons.proofs.Examples.{comes-up}
@@ -57,6 +57,7 @@ record Claims (rec : List ℕ) (m : ℕ) (bytes : List ℕ) (w : Monitor) : Type
   holds : Holds rec m bytes (reasonIn w)
   stands : 1 ≤ w .position .byte → Stands bytes (w .position .byte) (w .position .frame) (w .position .offset)
   measured : isMeasured (reasonIn w) ≡ true → Measured m bytes w
+  start-byte : reasonIn w ≡ started → Starting rec [] m (take (w .position .byte) bytes)
 
 -- a verdict that comes before any byte
 closed-heard : (v : Verdict) (bytes : List ℕ) → isOpen v ≡ false → heard (closed v) bytes ≡ closed v
@@ -138,7 +139,7 @@ module _ (R : Reset) (lent : Admitted R) (client : AsksClient R) where
     claims-heard : Claims (R .rec) m bytes (heard first bytes)
     claims-heard =
         let t = tells ram (callsFor uds typed bytes (begun R .state) ram) bytes (heard-by .hears) (heard-by .one-ram) in
-        record { holds = t .holds; stands = t .stands; measured = t .measured }
+        record { holds = t .holds; stands = t .stands; measured = t .measured; start-byte = t .start-byte }
 
 -- ---- the reason holds
 
@@ -174,7 +175,7 @@ early : (rec : List ℕ) (m : ℕ) (bytes : List ℕ) (v : Verdict) → isOpen v
 unfolding closed
 early rec m bytes v e h n =
     subst (Claims rec m bytes) (sym (closed-heard v bytes e))
-    (record { holds = h; stands = λ l. absurd (omega arith); measured = λ t. never (sym t ∙ n) })
+    (record { holds = h; stands = λ l. absurd (omega arith); measured = λ t. never (sym t ∙ n); start-byte = λ q. never (sym (ap isMeasured q) ∙ n) })
 
 claims : (rec : List ℕ) (m : ℕ) (bytes : List ℕ) → Claims rec m bytes (heard (monitor.begun rec m) bytes)
 unfolding closed
@@ -259,11 +260,19 @@ resets rec m l s k = (resetOf rec m, refl, length-zeros m, admits rec m (record 
 
 -- ---- earlier bytes and later ones
 
-first-end : (rec : List ℕ) (m : ℕ) (bytes : List ℕ) (k i : ℕ) → reasonFor rec m bytes ≡ stopped k i → (j : ℕ) → j < i
-    → goesOn (reasonFor rec m (take j bytes)) ≡ true
-first-end rec m bytes k i e j l =
+stop-byte : (rec : List ℕ) (m : ℕ) (bytes : List ℕ) (k i : ℕ) → reasonFor rec m bytes ≡ stopped k i → diagnosis rec m bytes .byte ≡ i
+unfolding diagnosis explained
+stop-byte rec m bytes k i e = monitors.stop-byte (heard (monitor.begun rec m) bytes) k i e
+
+start-byte : (rec : List ℕ) (m : ℕ) (bytes : List ℕ) → reasonFor rec m bytes ≡ started → Starting rec [] m (take (diagnosis rec m bytes .byte) bytes)
+unfolding diagnosis explained
+start-byte rec m bytes e = claims rec m bytes .start-byte e
+
+first-end : (rec : List ℕ) (m : ℕ) (bytes : List ℕ) (j : ℕ) → j < diagnosis rec m bytes .byte → goesOn (reasonFor rec m (take j bytes)) ≡ true
+unfolding diagnosis explained
+first-end rec m bytes j l =
     let w = monitor.begun rec m in
-    ap goesOn (told rec m (take j bytes)) ∙ open-goes (heard w (take j bytes)) ∙ no-earlier w bytes (ap (λ (q : Position). q .byte) (begun-nowhere rec m)) k i j (sym (told rec m bytes) ∙ e) l
+    open-goes (heard w (take j bytes)) ∙ no-earlier w bytes (ap (λ (q : Position). q .byte) (begun-nowhere rec m)) j l
 
 later : (rec : List ℕ) (m : ℕ) (bytes more : List ℕ) → goesOn (reasonFor rec m bytes) ≡ false → diagnosis rec m (bytes ++ more) ≡ diagnosis rec m bytes
 unfolding diagnosis
@@ -313,27 +322,28 @@ module _ (rec : List ℕ) (m : ℕ) (bytes more : List ℕ) where
         place = x .place;
       }
 
-  holds-up-to : (r : Reason) → Holds rec m bytes r → (k i : ℕ) → r ≡ stopped k i → Holds rec m (take i bytes ++ more) r
-  holds-up-to r (record-length n) k i e = record-length n
-  holds-up-to r (ram-size l n) k i e = ram-size l n
-  holds-up-to r (from-flash l t) k i e = from-flash l t
-  holds-up-to r (unknown-type l t) k i e = unknown-type l t
-  holds-up-to r (bad-header a j x) k i e = let q : j ≡ i = cc in bad-header a j (rw (← q) (header-up-to x))
-  holds-up-to r (bad-command a j x) k i e =
-      let q : j ≡ i = cc in bad-command a j (rw (← q) (record { at = frame-up-to (x .at); not-allowed = x .not-allowed }))
-  holds-up-to r (bad-length a j x) k i e =
-      let q : j ≡ i = cc in bad-length a j (rw (← q) (record { at = frame-up-to (x .at); other-length = x .other-length }))
-  holds-up-to r (bad-digest a j x) k i e =
-      let q : j ≡ i = cc in bad-digest a j (rw (← q) (record { at = frame-up-to (x .at); load = x .load; all-came = x .all-came; barred = x .barred }))
-  holds-up-to r (is-unfinished a x) k i e = impossible cc
-  holds-up-to r (is-waiting a x) k i e = impossible cc
-  holds-up-to r (is-missing a n x) k i e = impossible cc
-  holds-up-to r (has-started a x) k i e = impossible cc
+  holds-up-to : (i : ℕ) (r : Reason) → Holds rec m bytes r → goesOn r ≡ false → ((k j : ℕ) → r ≡ stopped k j → i ≡ j)
+      → (r ≡ started → Starting rec [] m (take i bytes)) → Holds rec m (take i bytes ++ more) r
+  holds-up-to i r (record-length n) g e t = record-length n
+  holds-up-to i r (ram-size l n) g e t = ram-size l n
+  holds-up-to i r (from-flash l x) g e t = from-flash l x
+  holds-up-to i r (unknown-type l x) g e t = unknown-type l x
+  holds-up-to i r (bad-header a j x) g e t = bad-header a j (rw (e 22 j refl) (header-up-to x))
+  holds-up-to i r (bad-command a j x) g e t = bad-command a j (rw (e 23 j refl) (record { at = frame-up-to (x .at); not-allowed = x .not-allowed }))
+  holds-up-to i r (bad-length a j x) g e t = bad-length a j (rw (e 24 j refl) (record { at = frame-up-to (x .at); other-length = x .other-length }))
+  holds-up-to i r (bad-digest a j x) g e t =
+      bad-digest a j (rw (e 25 j refl) (record { at = frame-up-to (x .at); load = x .load; all-came = x .all-came; barred = x .barred }))
+  holds-up-to i r (is-unfinished a x) g e t = never g
+  holds-up-to i r (is-waiting a x) g e t = never g
+  holds-up-to i r (is-missing a n x) g e t = never g
+  holds-up-to i r (has-started a x) g e t = has-started a (record { received = take i bytes; rest = more; reads = refl; starting = t refl })
 
-rest : (rec : List ℕ) (m : ℕ) (bytes more : List ℕ) (k i : ℕ) → reasonFor rec m bytes ≡ stopped k i → reasonFor rec m (take i bytes ++ more) ≡ stopped k i
-rest rec m bytes more k i e =
-    sym (only rec m (take i bytes ++ more) (stopped k i)
-    (subst (Holds rec m (take i bytes ++ more)) e (holds-up-to rec m bytes more (reasonFor rec m bytes) (holds rec m bytes) k i e)))
+rest : (rec : List ℕ) (m : ℕ) (bytes others : List ℕ) → goesOn (reasonFor rec m bytes) ≡ false
+    → reasonFor rec m (take (diagnosis rec m bytes .byte) bytes ++ others) ≡ reasonFor rec m bytes
+rest rec m bytes others g =
+    let i = diagnosis rec m bytes .byte in
+    sym (only rec m (take i bytes ++ others) (reasonFor rec m bytes)
+    (holds-up-to rec m bytes others i (reasonFor rec m bytes) (holds rec m bytes) g (λ k j. stop-byte rec m bytes k j) (start-byte rec m bytes)))
 
 -- ---- the last byte that was read, and the digest
 
@@ -388,9 +398,11 @@ diagnoses =
       begins = at-begin;
       exists = λ R ram uds bytes a c e w t. exists R a c ram uds bytes e w t;
       resets = resets;
+      stop-byte = stop-byte;
+      start-byte = start-byte;
       first = first-end;
-      later = later;
       rest = rest;
+      later = later;
       stands = stands;
       measured = measured;
       parts = heard-both;

@@ -6,7 +6,8 @@ use mathlib.Core.Bool.{Bool, true, false, cond}
 use mathlib.Core.List.{List, [], _∷_, _++_, append-assoc, append-nil, flatten}
 use native.Mathlib.Omega.{arith}
 use lib.Dec.{eqb}
-use lib.ListN.{length}
+use lib.ListN.{length, take}
+use lib.Seq.{take-append-seam}
 use borrow.Author.Tests.{ne-eqb, eq-eqb, le-ltb}
 use Rattle.endian.specs.Lists.{All}
 use Rattle.endian.proofs.Cases.{impossible}
@@ -25,7 +26,7 @@ use Rattle.head.specs.declared.Progress.{Progress}
 use Rattle.head.specs.declared.State.{State}
 use Rattle.head.specs.declared.Stop.{Stop}
 use Rattle.head.specs.declared.Stop.the-variants.{HeaderBit}
-use Rattle.session.specs.Reading.{Good, Opens, own, sizeOf, typeOf, Allowed}
+use Rattle.session.specs.Reading.{Good, Opens, own, sizeOf, typeOf, Allowed, Starting}
 use Rattle.session.specs.Session.{Reset, AsksClient, Admitted, Loan, Call, gather, act, Entry, gathers, acts, reportIn, Among, log, isAccepted, accepted, OneRam}
 use Rattle.session.proofs.Resets.{ReadsOn}
 use Rattle.session.proofs.Frames.{own-more}
@@ -74,6 +75,7 @@ module _ (R : Reset) (lent : Admitted R) (client : AsksClient R) where
     pub starts : (reasonIn w ≡ started) ↔ StartIn es
     pub stands : 1 ≤ w .position .byte → Stands (bs ++ rest) (w .position .byte) (w .position .frame) (w .position .offset)
     pub measured : isMeasured (reasonIn w) ≡ true → Measured m (bs ++ rest) w
+    pub start-byte : reasonIn w ≡ started → Starting rec [] m (take (w .position .byte) (bs ++ rest))
 
   -- ---- while the head goes on
 
@@ -151,6 +153,7 @@ module _ (R : Reset) (lent : Admitted R) (client : AsksClient R) where
           starts = (λ q. absurd (not-empty (c .0 ∙ ap endIn (sym e ∙ q))), λ x. absurd (no-start [] refl x));
           stands = f .placed .stands [];
           measured = λ q. never (sym q ∙ unmeasured (reasonIn w) (c .0 ∙ ap endIn (sym e)));
+          start-byte = λ q. absurd (not-empty (c .0 ∙ ap endIn (sym e ∙ q)));
           holds = subst (λ (x : List ℕ). Holds rec m x (reasonIn w)) (sym (append-nil bs)) (subst (Holds rec m bs) (sym e) (c .1));
         }
       where
@@ -255,32 +258,28 @@ module _ (R : Reset) (lent : Admitted R) (client : AsksClient R) where
     stop-weighed w k (why-length x) e = never (sym e)
     stop-weighed w k (why-digest x a) e = weighed w x
 
+  starts-so : (bs : List ℕ) → ReadsOn R bs → Starting rec [] m bs
+  starts-so bs w =
+      record {
+        before = w .before;
+        last = w .last;
+        all-good = w .all-good;
+        nothing-left = w .nothing-left;
+        last-own = w .last-own;
+        last-block = w .last-block;
+        opening = w .opening;
+        load = w .load;
+        blocks = w .blocks;
+        order = w .order;
+        opens = w .opens;
+        loads = w .loads;
+        carry = w .carry;
+        enough = w .enough;
+        allowed = allowed-any (R .flash .builtIn) [] _ (w .allowed);
+      }
+
   start-holds : (bs rest : List ℕ) → ReadsOn R bs → Holds rec m (bs ++ rest) started
-  start-holds bs rest w =
-      meaning.has-started asks
-      (record {
-        received = bs;
-        rest = rest;
-        reads = refl;
-        starting =
-            record {
-              before = w .before;
-              last = w .last;
-              all-good = w .all-good;
-              nothing-left = w .nothing-left;
-              last-own = w .last-own;
-              last-block = w .last-block;
-              opening = w .opening;
-              load = w .load;
-              blocks = w .blocks;
-              order = w .order;
-              opens = w .opens;
-              loads = w .loads;
-              carry = w .carry;
-              enough = w .enough;
-              allowed = allowed-any (R .flash .builtIn) [] _ (w .allowed);
-            };
-      })
+  start-holds bs rest w = meaning.has-started asks (record { received = bs; rest = rest; reads = refl; starting = starts-so bs w })
 
   -- ---- a call, and what the calls after it lead to
 
@@ -296,6 +295,7 @@ module _ (R : Reset) (lent : Admitted R) (client : AsksClient R) where
         );
         stands = λ q. subst (λ (x : List ℕ). Stands x (w .position .byte) (w .position .frame) (w .position .offset)) (append-assoc bs (b ∷ []) rest) (t .stands q);
         measured = λ q. subst (λ (x : List ℕ). Measured m x w) (append-assoc bs (b ∷ []) rest) (t .measured q);
+        start-byte = λ q. subst (λ (x : List ℕ). Starting rec [] m (take (w .position .byte) x)) (append-assoc bs (b ∷ []) rest) (t .start-byte q);
       }
 
   act-first : (bs rest : List ℕ) (l : Loan) (o : Outcome) (es : List Entry) (w : Monitor) → o .report ≡ continues → Tells bs rest es w
@@ -310,6 +310,7 @@ module _ (R : Reset) (lent : Admitted R) (client : AsksClient R) where
         );
         stands = t .stands;
         measured = t .measured;
+        start-byte = t .start-byte;
       }
 
   -- the end of the session
@@ -389,6 +390,7 @@ module _ (R : Reset) (lent : Admitted R) (client : AsksClient R) where
           starts = no-starts (acts l o) (log (o .state) cs) (stopNumber k) (length bs) (reasonIn heard-frame) e (told k v) (nothing-stopped (o .state) m cs p);
           stands = placed .stands rest;
           measured = λ y. stop-weighed os f bs s (l .ram) u rest heard-frame k why (ap isMeasured (sym (told k v)) ∙ y);
+          start-byte = λ y. let z : stopped (stopNumber k) (length bs) ≡ started = sym (told k v) ∙ y in impossible cc;
         }
     acted-tells o (both-start a n e v x2) (goes-on q y j p) x h one =
         let z : head.started a n ≡ head.continues = sym e ∙ q in
@@ -402,6 +404,7 @@ module _ (R : Reset) (lent : Admitted R) (client : AsksClient R) where
           starts = (λ q. record { loan = l; out = o; among = start-among o a n e (log (o .state) cs); answered = record { address = a; size = n; answers = e } }, λ x. t);
           stands = placed .stands rest;
           measured = λ y. weighed os f bs s (l .ram) u rest heard-frame x2;
+          start-byte = λ y. subst (Starting rec [] m) (sym (ap (λ (i : ℕ). take i (bs ++ rest)) (placed .count) ∙ take-append-seam bs rest)) (starts-so bs d);
         }
     acted-tells o (both-start a n e v x2) (has-stopped k q p z) x h one =
         let y : head.started a n ≡ head.stopped k = sym e ∙ q in
@@ -500,6 +503,7 @@ module _ (R : Reset) (lent : Admitted R) (client : AsksClient R) where
           starts = no-starts (gathers b g) (log (g .state) cs) 22 (w .position .byte + 1) (stopped 22 (w .position .byte + 1)) e refl (nothing-stopped (g .state) m cs q);
           stands = λ n. byte-stands rest;
           measured = λ n. never (sym n);
+          start-byte = λ y. impossible cc;
         }
 
     byte-tells : (g : Gathering) → AfterGather R os (bs ++ b ∷ []) r g → ((g .report ≡ head.stopped 22 → ⊥) → Reading) → (g .report ≡ head.stopped 22 → Holds rec m (bs ++ b ∷ rest) (stopped 22 (length bs + 1)))

@@ -9,7 +9,7 @@ use lib.Dec.{eqb}
 use lib.ListN.{length, getD, take}
 use Rattle.endian.specs.Lists.{All, Words}
 use Rattle.framing.specs.Header.{headerAt, bodyLen}
-use Rattle.session.specs.Reading.{Good, digestOf}
+use Rattle.session.specs.Reading.{Good, digestOf, Starting}
 use Rattle.head.specs.Answers as head
 use Rattle.head.specs.Answers.{Report, reportsWhole}
 use Rattle.session.specs.Session.{Reset, begun, AsksClient, Admitted, Loan, Entry, gathers, acts, Session, ramLen, allOf}
@@ -127,12 +127,15 @@ pub record Diagnoses : Type 0 where
   pub exists : (R : Reset) (ram uds bytes : List ℕ) → Admitted R → AsksClient R → length ram ≡ length (R .ram) → length uds ≡ 8 → Words uds
       → Hearing R ram bytes
   pub resets : (rec : List ℕ) (m : ℕ) → length rec ≡ 256 → 1 ≤ m → m ≤ 131072 → (R : Reset) × (R .rec ≡ rec) × (length (R .ram) ≡ m) × Admitted R
-  -- no byte before that of a stop gave one, or a start
-  pub first : (rec : List ℕ) (m : ℕ) (bytes : List ℕ) (k i : ℕ) → reasonFor rec m bytes ≡ stopped k i
-      → (j : ℕ) → j < i → goesOn (reasonFor rec m (take j bytes)) ≡ true
-  -- and no byte after it, or after a start, matters
+  -- byte i of a stop is the last that was read, and so is the last byte of a start
+  pub stop-byte : (rec : List ℕ) (m : ℕ) (bytes : List ℕ) (k i : ℕ) → reasonFor rec m bytes ≡ stopped k i → diagnosis rec m bytes .byte ≡ i
+  pub start-byte : (rec : List ℕ) (m : ℕ) (bytes : List ℕ) → reasonFor rec m bytes ≡ started → Starting rec [] m (take (diagnosis rec m bytes .byte) bytes)
+  -- no byte before it gave a stop or a start
+  pub first : (rec : List ℕ) (m : ℕ) (bytes : List ℕ) (j : ℕ) → j < diagnosis rec m bytes .byte → goesOn (reasonFor rec m (take j bytes)) ≡ true
+  -- and no byte after a stop or a start matters: not if they are others, and not if there are more
+  pub rest : (rec : List ℕ) (m : ℕ) (bytes others : List ℕ) → goesOn (reasonFor rec m bytes) ≡ false
+      → reasonFor rec m (take (diagnosis rec m bytes .byte) bytes ++ others) ≡ reasonFor rec m bytes
   pub later : (rec : List ℕ) (m : ℕ) (bytes more : List ℕ) → goesOn (reasonFor rec m bytes) ≡ false → diagnosis rec m (bytes ++ more) ≡ diagnosis rec m bytes
-  pub rest : (rec : List ℕ) (m : ℕ) (bytes more : List ℕ) (k i : ℕ) → reasonFor rec m bytes ≡ stopped k i → reasonFor rec m (take i bytes ++ more) ≡ stopped k i
   -- the last byte that was read stands where the diagnosis says
   pub stands : (rec : List ℕ) (m : ℕ) (bytes : List ℕ) → let d = diagnosis rec m bytes in 1 ≤ d .byte → Stands bytes (d .byte) (d .frame) (d .offset)
   -- the digest, at a start and at stop 25, is that of the program which the bytes carry, however they are read as whole good frames with all of it
