@@ -1,10 +1,12 @@
 /*
  * The proved parts of Mastfrap that a C program can call, or one in any language that calls C: BLAKE2s
- * (RFC 7693) as proved in crates/blake2s, the server's half of a load as proved in crates/client, and the
- * head itself, for its firmware, as proved in crates/abi.
+ * (RFC 7693) as proved in crates/blake2s, the server's half of a load as proved in crates/client, why a
+ * loom did not start as proved in crates/diagnosis, and the head itself, for its firmware, as proved in
+ * crates/abi.
  *
  *     rt staticlib blake2s    target/staticlib/libblake2s.a    mastfrap_blake2s
  *     rt staticlib client     target/staticlib/libclient.a     mastfrap_make_frame, _read_reply, _difference
+ *     rt staticlib diagnosis  target/staticlib/libdiagnosis.a  mastfrap_diagnose
  *     rt staticlib abi        target/staticlib/libabi.a        mastfrap_begin, _gather, _act
  *     firmware/build.sh       target/riscv32/libmastfrap.a     the same three, for riscv32
  *
@@ -231,6 +233,50 @@ uint32_t mastfrap_act(uint32_t numbers[MASTFRAP_STATE_NUMBERS], uint8_t bytes[MA
                       uint8_t *room, mastfrap_size room_len, uint8_t *ram, mastfrap_size ram_len,
                       uint32_t *uds, mastfrap_size uds_len, uint32_t *reply_len, uint32_t start[2],
                       uint8_t cdi[MASTFRAP_CDI_BYTES], uint8_t digest[MASTFRAP_DIGEST_BYTES]);
+
+/* ---- libdiagnosis.a: why a loom did not start */
+
+/*
+ * What a diagnosis answers besides these: MASTFRAP_REFUSED_RECORD_LENGTH (6) and MASTFRAP_REFUSED_RAM_SIZE
+ * (7), the stops MASTFRAP_STOPPED_TYPE (20), _HEADER (22), _COMMAND (23), _BODY_LENGTH (24) and _DIGEST
+ * (25), and MASTFRAP_STARTED (65).
+ */
+enum {
+    MASTFRAP_REFUSED_FROM_FLASH = 48, /* the record's type is 0 to 3: the program comes from flash */
+
+    MASTFRAP_UNFINISHED = 66, /* the bytes end in a frame that is not whole */
+    MASTFRAP_WAITING = 67,    /* no good load has come */
+    MASTFRAP_MISSING = 68     /* of the program so many blocks have not come: counts[3] */
+};
+
+#define MASTFRAP_DIAGNOSIS_COUNTS 4
+
+/*
+ * Says why a loom did not start, or that it has: the reset record of its head, how many bytes of RAM that
+ * has, and the bytes that it heard on the cable since reset, in order and without its replies. It is what
+ * the head would do that gathers each byte and acts at once on each frame that is whole: 65 exactly where
+ * it starts, the number of a stop where it stops, and otherwise 66, 67 or 68, of which 66 comes first. No
+ * byte is read after a start or a stop.
+ *
+ * Unless the call is refused, it writes of the last byte that was read, which at a stop is the byte that
+ * stopped the head:
+ *
+ *     counts    0    its number, from 1; 0 if there is none, as at stop 20
+ *               1    the number of its frame, from 1, frames for other endpoints counted; 0 if there is none
+ *               2    its place in that frame: 0 is the header
+ *               3    how many blocks are missing, at 68; 0 otherwise
+ *     digest         the program's digest, at 65 and at 25; zeros otherwise. At 25 bytes 8 to 39 of the
+ *                    record are the one that is allowed
+ *
+ * If it is refused, counts and digest are not changed. Nothing else is ever written, and no RAM is needed.
+ *
+ * More that the proof takes the caller's word for: each array is good for as many numbers or bytes as stand
+ * in its brackets. counts and digest overlap neither each other nor record and bytes.
+ */
+uint32_t mastfrap_diagnose(const uint8_t *record, mastfrap_size record_len, mastfrap_size ram_len,
+                           const uint8_t *bytes, mastfrap_size bytes_len,
+                           uint64_t counts[MASTFRAP_DIAGNOSIS_COUNTS],
+                           uint8_t digest[MASTFRAP_DIGEST_BYTES]);
 
 #ifdef __cplusplus
 }

@@ -2,12 +2,14 @@
 import argparse
 import fcntl
 import os
+import re
 import signal
 import subprocess
 import sys
 
 TOP = os.path.dirname(os.path.dirname(os.path.realpath(__file__)))
 FAILED, BAD_ARGUMENTS = 1, 2
+RAM_MOST = 131072
 
 
 class Parser(argparse.ArgumentParser):
@@ -20,6 +22,12 @@ class Parser(argparse.ArgumentParser):
 
     def error(self, message):
         self.exit(BAD_ARGUMENTS, f"{self.name}: {message}; see ./{self.name} --help\n")
+
+
+def ram_length(text):
+    if not re.fullmatch("[0-9]{1,6}", text) or not 1 <= int(text) <= RAM_MOST:
+        raise argparse.ArgumentTypeError(f"{text!r} is not a number from 1 to {RAM_MOST}")
+    return int(text)
 
 
 def fail(number, words):

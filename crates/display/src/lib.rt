@@ -139,7 +139,7 @@ fn stop_line(t: Text, why: Stop) -> Text
 }
 
 // Why the head stopped, in README's words.
-fn put_words(t: Text, why: Stop) -> Text
+pub fn put_words(t: Text, why: Stop) -> Text
     ensures { λ r. ⌜ r ≡ added t (wordsOf why) ⌝ }
 {
     match why {
