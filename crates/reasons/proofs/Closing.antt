@@ -6,12 +6,12 @@ use mathlib.Core.List.{List, [], _∷_, _++_, append-assoc}
 use native.Mathlib.Omega.{arith}
 use lib.ListN.{length, length-append}
 use Rattle.endian.specs.Lists.{All}
-use Rattle.protocol.specs.Commands.{commandIn, blocksFor}
-use Rattle.session.specs.Reading.{bodyOf, LoadFrame, Opens, BlockFrame, sizeOf, digestOf, Allowed}
-use Rattle.session.proofs.Shapes.{Shape, one-shape, next-is, no-load, All-last}
+use Rattle.protocol.specs.Commands.{blocksFor}
+use Rattle.session.specs.Reading.{Opens, BlockFrame, sizeOf, digestOf, Allowed, Loads, needed}
+use Rattle.session.proofs.Shapes.{one-shape, next-is, no-load, All-last}
 use Rattle.session.proofs.Acting.{grows}
 use Rattle.diagnosis.specs.Reasons.{Reason, stopped, waiting, missing, started}
-use Rattle.reasons.specs.Meaning.{TakenWaiting, TakenLoading, NotAllowed, OtherLength}
+use Rattle.reasons.specs.Meaning.{TakenWaiting, NotAllowed, OtherLength}
 
 pub All-front : (P : List ℕ → Type 0) (fs gs : List (List ℕ)) → All P (fs ++ gs) → All P fs
 All-front P [] gs a = tt
@@ -19,18 +19,18 @@ All-front P (f ∷ fs) gs a = (a .0, All-front P fs gs (a .1))
 
 -- ---- stops 23 and 24: a table does not take a frame
 
-pub data Bars (T : ℕ → ℕ → Type 0) (f : List ℕ) (k : ℕ) : Type 0 where
+pub data Bars (T : List ℕ → Type 0) (f : List ℕ) (k : ℕ) : Type 0 where
   by-command : NotAllowed T f → k ≡ 23 → Bars T f k
   by-length : OtherLength T f → k ≡ 24 → Bars T f k
 
-one-bar : {T : ℕ → ℕ → Type 0} {f : List ℕ} {k j : ℕ} → Bars T f k → Bars T f j → k ≡ j
+one-bar : {T : List ℕ → Type 0} {f : List ℕ} {k j : ℕ} → Bars T f k → Bars T f j → k ≡ j
 one-bar (by-command a d) (by-command b e) = d ∙ sym e
-one-bar (by-command a d) (by-length b e) = absurd (a (b .0 .0) (b .0 .1))
-one-bar (by-length a d) (by-command b e) = absurd (b (a .0 .0) (a .0 .1))
+one-bar (by-command a d) (by-length b e) = absurd (a (b .0 .0) (b .0 .1) (b .0 .2))
+one-bar (by-length a d) (by-command b e) = absurd (b (a .0 .0) (a .0 .1) (a .0 .2))
 one-bar (by-length a d) (by-length b e) = d ∙ sym e
 
-not-taken : {T : ℕ → ℕ → Type 0} {f : List ℕ} {k : ℕ} → Bars T f k → T (commandIn f) (length (bodyOf f)) → ⊥
-not-taken (by-command a d) t = a _ t
+not-taken : {T : List ℕ → Type 0} {f : List ℕ} {k : ℕ} → Bars T f k → T f → ⊥
+not-taken {f = f} (by-command a d) t = a f refl t
 not-taken (by-length a d) t = a .1 t
 
 -- ---- what is awaited
@@ -39,22 +39,16 @@ pub data Awaited : Type 0 where
   a-load : Awaited
   a-block : Awaited
 
-abbrev pub Taken : Awaited → ℕ → ℕ → Type 0
+abbrev pub Taken : Awaited → List ℕ → Type 0
 Taken a-load = TakenWaiting
-Taken a-block = TakenLoading
-
-load-taken : (f : List ℕ) → LoadFrame f → TakenWaiting (commandIn f) (length (bodyOf f))
-load-taken f l = inr (inr (l .1, l .0))
+Taken a-block = BlockFrame
 
 module _ (m : ℕ) where
   abbrev pub Awaits : Awaited → List (List ℕ) → Type 0
   Awaits a-load os = All (Opens m) os
-  Awaits a-block os = Shape m os
+  Awaits a-block os = Loads m os
 
-  abbrev pub needed : {os : List (List ℕ)} → Shape m os → ℕ
-  needed g = blocksFor (sizeOf (g .load))
-
-  not-both : (os : List (List ℕ)) → Shape m os → All (Opens m) os → ⊥
+  not-both : (os : List (List ℕ)) → Loads m os → All (Opens m) os → ⊥
   not-both os g a = no-load m os a (g .opening) (g .load) (g .blocks) (g .loads) (g .order)
 
   one-awaited : (s z : Awaited) (os : List (List ℕ)) → Awaits s os → Awaits z os → s ≡ z
@@ -63,43 +57,42 @@ module _ (m : ℕ) where
   one-awaited a-block a-load os a b = absurd (not-both os a b)
   one-awaited a-block a-block os a b = refl
 
-  same-shape : {os : List (List ℕ)} (g h : Shape m os) → (g .load ≡ h .load) × (g .blocks ≡ h .blocks)
-  same-shape g h =
+  same-load : {os : List (List ℕ)} (g h : Loads m os) → (g .load ≡ h .load) × (g .blocks ≡ h .blocks)
+  same-load g h =
       let u = one-shape m (g .opening) (h .opening) (g .load) (h .load) (g .blocks) (h .blocks) (g .opens) (h .opens) (g .loads) (h .loads) (sym (g .order) ∙ h .order) in
       (u .1, u .2)
 
-  -- a shape of the same frames
-  abbrev shape-as : {os all : List (List ℕ)} → Shape m all → all ≡ os → Shape m os
-  shape-as g e = record { opening = g .opening; load = g .load; blocks = g .blocks; order = sym e ∙ g .order; opens = g .opens; loads = g .loads; carry = g .carry }
+  -- the same, of frames that are equal
+  abbrev pub loads-as : {os all : List (List ℕ)} → Loads m all → all ≡ os → Loads m os
+  loads-as g e = record { opening = g .opening; load = g .load; blocks = g .blocks; order = sym e ∙ g .order; opens = g .opens; loads = g .loads; carry = g .carry }
 
-  opens-taken : (f : List ℕ) → Opens m f → TakenWaiting (commandIn f) (length (bodyOf f))
-  opens-taken f (inl q) = ⊎-elim (λ c. inl (c, q .0)) (λ c. inr (inl (c, q .0))) (q .1)
-  opens-taken f (inr l) = load-taken f (l .0)
+  opens-taken : (f : List ℕ) → Opens m f → TakenWaiting f
+  opens-taken f (inl q) = inl q
+  opens-taken f (inr l) = inr (l .0)
 
   -- where frames that begin with os and f await something, f was taken
   taken : (s z : Awaited) (os : List (List ℕ)) (f : List ℕ) (hs all : List (List ℕ)) → Awaits s os → Awaits z all → all ≡ os ++ f ∷ hs
-      → Taken s (commandIn f) (length (bodyOf f))
+      → Taken s f
   taken a-load a-load os f hs all a b e = opens-taken f (All-last (Opens m) os f hs (subst (All (Opens m)) e b))
   taken a-load a-block os f hs all a b e =
-      ⊎-elim (opens-taken f) (λ l. load-taken f (l .0)) (next-is m os f hs a (b .opening) (b .load) (b .blocks) (b .opens) (b .loads) (sym e ∙ b .order))
+      ⊎-elim (opens-taken f) (λ l. inr (l .0)) (next-is m os f hs a (b .opening) (b .load) (b .blocks) (b .opens) (b .loads) (sym e ∙ b .order))
   taken a-block a-load os f hs all a b e = absurd (not-both os a (All-front (Opens m) os (f ∷ hs) (subst (All (Opens m)) e b)))
   taken a-block a-block os f hs all a b e =
-      let u = grows m os (f ∷ hs) a (shape-as b e) in
-      let c : BlockFrame f = All-last BlockFrame (a .blocks) f hs (rw (u .1) (b .carry)) in
-      (c .1, c .0)
+      let u = grows m os (f ∷ hs) a (loads-as b e) in
+      All-last BlockFrame (a .blocks) f hs (rw (u .1) (b .carry))
 
   -- ---- the bytes end
 
   pub data Ends (os : List (List ℕ)) (r : Reason) : Type 0 where
     for-load : All (Opens m) os → r ≡ waiting → Ends os r
-    for-blocks : (g : Shape m os) (k : ℕ) → length (g .blocks) + k ≡ needed g → r ≡ missing k → Ends os r
+    for-blocks : (g : Loads m os) (k : ℕ) → length (g .blocks) + k ≡ needed g → r ≡ missing k → Ends os r
 
   pub one-end : {os : List (List ℕ)} {r q : Reason} → Ends os r → Ends os q → r ≡ q
   one-end (for-load a d) (for-load b e) = d ∙ sym e
   one-end {os = os} (for-load a d) (for-blocks g k n e) = absurd (not-both os g a)
   one-end {os = os} (for-blocks g k n d) (for-load b e) = absurd (not-both os g b)
   one-end (for-blocks g k n d) (for-blocks h j l e) =
-      let u = same-shape g h in
+      let u = same-load g h in
       let x : length (g .blocks) ≡ length (h .blocks) = ap length (u .1) in
       let y : needed g ≡ needed h = ap (λ (f : List ℕ). blocksFor (sizeOf f)) (u .0) in
       let z : k ≡ j = omega arith in
@@ -110,7 +103,7 @@ module _ (m : ℕ) where
   -- the head goes on after os. That blocks are missing may be seen from frames that go further: each of more brings one block at most
   pub data Open (os : List (List ℕ)) : Type 0 where
     waits : All (Opens m) os → Open os
-    misses : (more all : List (List ℕ)) → all ≡ os ++ more → (g : Shape m all) → length (g .blocks) < needed g + length more → Open os
+    misses : (more all : List (List ℕ)) → all ≡ os ++ more → (g : Loads m all) → length (g .blocks) < needed g + length more → Open os
 
   module _ (rec : List ℕ) where
     -- all of a program has come, with byte i, and has the digest d
@@ -127,7 +120,7 @@ module _ (m : ℕ) where
     -- f comes after os, and its last byte is byte i
     pub data Closes (os : List (List ℕ)) (f : List ℕ) (i : ℕ) (r : Reason) : Type 0 where
       bars : (s : Awaited) → Awaits s os → (k : ℕ) → Bars (Taken s) f k → r ≡ stopped k i → Closes os f i r
-      completes : (g : Shape m (os ++ f ∷ [])) → length (g .blocks) ≡ needed g → Ruled (digestOf (g .load) (g .blocks)) i r → Closes os f i r
+      completes : (g : Loads m (os ++ f ∷ [])) → length (g .blocks) ≡ needed g → Ruled (digestOf (g .load) (g .blocks)) i r → Closes os f i r
 
     module _ (os : List (List ℕ)) (f : List ℕ) (i : ℕ) where
       pub one-closing : {r q : Reason} → Closes os f i r → Closes os f i q → r ≡ q
@@ -136,7 +129,7 @@ module _ (m : ℕ) where
           d ∙ ap (λ (n : ℕ). stopped n i) x ∙ sym e
       one-closing (bars s a k b d) (completes g n x) = absurd (not-taken b (taken s a-block os f [] _ a g refl))
       one-closing (completes g n x) (bars s a k b d) = absurd (not-taken b (taken s a-block os f [] _ a g refl))
-      one-closing (completes g n x) (completes h l y) = let u = same-shape g h in one-rule x (rw (u .0, u .1) y)
+      one-closing (completes g n x) (completes h l y) = let u = same-load g h in one-rule x (rw (u .0, u .1) y)
 
       pub closed : {r : Reason} → Closes os f i r → (hs : List (List ℕ)) → Open (os ++ f ∷ hs) → ⊥
       closed (bars s a k b e) hs (waits w) = not-taken b (taken s a-load os f hs _ a w refl)
@@ -146,7 +139,7 @@ module _ (m : ℕ) where
           not-both (os ++ f ∷ []) g (All-front (Opens m) (os ++ f ∷ []) hs (subst (All (Opens m)) (sym (append-assoc os (f ∷ []) hs)) w))
       closed (completes g n x) hs (misses more all o h l) =
           let e : all ≡ (os ++ f ∷ []) ++ (hs ++ more) = o ∙ append-assoc os (f ∷ hs) more ∙ sym (append-assoc os (f ∷ []) (hs ++ more)) in
-          let u = grows m (os ++ f ∷ []) (hs ++ more) g (shape-as h e) in
+          let u = grows m (os ++ f ∷ []) (hs ++ more) g (loads-as h e) in
           let v : length (g .blocks) + length (hs ++ more) ≡ length (h .blocks) = sym (length-append (g .blocks) (hs ++ more)) ∙ ap length (u .1) in
           let y : needed g ≡ needed h = ap (λ (f : List ℕ). blocksFor (sizeOf f)) (u .0) in
           let z = length-append hs more in

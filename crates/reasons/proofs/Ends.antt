@@ -11,7 +11,7 @@ use Rattle.head.specs.Answers.{continues, whole, Outcome}
 use Rattle.head.specs.Answers as head
 use Rattle.head.specs.Begin.{waiting}
 use Rattle.head.specs.declared.State.{State}
-use Rattle.session.specs.Reading.{Good, digestOf}
+use Rattle.session.specs.Reading.{Good, digestOf, own, Loads, needed}
 use Rattle.session.specs.Session.{Loan, Entry, gathers, acts, reportIn, Among, isAccepted, accepted}
 use Rattle.session.proofs.Calls.{unfinished}
 use Rattle.session.proofs.Entries.{among-later, among-cases, among-none}
@@ -20,7 +20,6 @@ use Rattle.diagnosis.specs.Reasons.{Reason, stopped, missing, started}
 use Rattle.diagnosis.specs.Reasons as reason
 use Rattle.diagnosis.specs.declared.Verdict.the-variants.{Open}
 use Rattle.diagnosis.specs.declared.Monitor.{Monitor}
-use Rattle.reasons.specs.Meaning.{Loads, needed}
 use Rattle.reasons.specs.Theorems.{isMeasured, endAt, endsOf, endIn}
 
 -- a monitor by its fields
@@ -90,6 +89,6 @@ pub record Measured (m : ℕ) (bytes : List ℕ) (w : Monitor) : Type 0 where
   pub after : List ℕ
   pub reads : bytes ≡ flatten frames ++ after
   pub all-good : All Good frames
-  pub load : Loads m frames
-  pub all-came : length (load .blocks) ≡ needed m load
+  pub load : Loads m (own frames)
+  pub all-came : length (load .blocks) ≡ needed load
   pub digest : w .digest ≡ digestOf (load .load) (load .blocks)

@@ -12,14 +12,13 @@ use borrow.Author.Tests.{eq-eqb, ne-eqb, le-leb, lt-leb}
 use Rattle.endian.specs.Lists.{All}
 use Rattle.protocol.specs.Commands.{lengthOk}
 use Rattle.head.proofs.Ranges.{by-test, length-facts}
-use Rattle.session.specs.Reading.{Good, forFirmware, own, digestOf, typeOf}
+use Rattle.session.specs.Reading.{Good, forFirmware, own, BlockFrame, digestOf, typeOf, Loads, needed}
 use Rattle.session.proofs.Frames.{own-append, flatten-snoc, own-more}
-use Rattle.session.proofs.Shapes.{Shape, All-last}
+use Rattle.session.proofs.Shapes.{All-last}
 use Rattle.diagnosis.specs.Reasons.{Reason, refused, stopped, unfinished}
-use Rattle.reasons.specs.Meaning as meaning
-use Rattle.reasons.specs.Meaning.{Waits, Loads, Misses, TakenWaiting, TakenLoading, Frames, Whole, FrameAt, Lent, Asks, Holds, record-length, ram-size, from-flash, unknown-type, bad-header, bad-command, bad-length, bad-digest, is-unfinished, is-waiting, is-missing, has-started}
+use Rattle.reasons.specs.Meaning.{Waits, Misses, TakenWaiting, Frames, Whole, FrameAt, LengthsOk, Asks, Holds, record-length, ram-size, from-flash, unknown-type, bad-header, bad-command, bad-length, bad-digest, is-unfinished, is-waiting, is-missing, has-started}
 use Rattle.reasons.proofs.Next.{Next, nothing, bad, part, frame, next, next-bad, next-part, next-frame, Onward, compare}
-use Rattle.reasons.proofs.Closing.{All-front, Bars, by-command, by-length, a-load, a-block, Ends, for-load, for-blocks, one-end, Open, waits, misses, Ruled, starts, stops, Closes, bars, completes, one-closing, closed}
+use Rattle.reasons.proofs.Closing.{All-front, loads-as, Bars, by-command, by-length, a-load, a-block, Ends, for-load, for-blocks, one-end, Open, waits, misses, Ruled, starts, stops, Closes, bars, completes, one-closing, closed}
 
 -- what is decided before any byte: a reason, or that a program is asked for
 data Gate : Type 0 where
@@ -32,10 +31,6 @@ byType t = cond (leb t 3) (settled (refused 48)) (cond (leb 6 t) (settled (stopp
 -- a frame for the firmware among others
 own-at : (fs : List (List ℕ)) (f : List ℕ) (gs : List (List ℕ)) → forFirmware f ≡ true → own (fs ++ f ∷ gs) ≡ own fs ++ f ∷ own gs
 own-at fs f gs e = own-append fs (f ∷ gs) ∙ ap (λ (x : Bool). own fs ++ cond x (f ∷ own gs) (own gs)) e
-
--- a load as a shape of the frames for the firmware
-abbrev pub shape-of : (m : ℕ) {fs : List (List ℕ)} → Loads m fs → {os : List (List ℕ)} → os ≡ own fs → Shape m os
-shape-of m l e = record { opening = l .opening; load = l .load; blocks = l .blocks; order = e ∙ l .order; opens = l .opens; loads = l .loads; carry = l .carry }
 
 module _ (rec : List ℕ) (m : ℕ) (bytes : List ℕ) where
   -- ---- the frames that go on, and what comes then
@@ -82,9 +77,9 @@ module _ (rec : List ℕ) (m : ℕ) (bytes : List ℕ) where
 
   -- ---- the cut of each reason
 
-  still-open : (fs : List (List ℕ)) → Waits m fs ⊎ Misses m fs → Open m (own fs)
-  still-open fs (inl w) = waits w
-  still-open fs (inr x) = let l = x .fewer in misses [] (own fs) (sym (append-nil (own fs))) (shape-of m (x .so-far) refl) (omega arith)
+  still-open : (os : List (List ℕ)) → Waits m os ⊎ Misses m os → Open m os
+  still-open os (inl w) = waits w
+  still-open os (inr x) = let l = x .fewer in misses [] os (sym (append-nil os)) (x .so-far) (omega arith)
 
   -- no frame closes the load
   at-end : {r : Reason} (x : Frames m bytes) (n : Next) → next (x .rest) ≡ n → Tail (x .before) n r → Cut r
@@ -94,11 +89,11 @@ module _ (rec : List ℕ) (m : ℕ) (bytes : List ℕ) where
         tail = x .rest;
         reads = x .reads;
         all-good = x .all-good;
-        goes-on = still-open (x .before) (x .goes-on);
+        goes-on = still-open (own (x .before)) (x .goes-on);
         kind = subst (λ (n : Next). Tail (x .before) n r) (sym e) t;
       }
 
-  nothing-left : {r : Reason} (x : Whole bytes) → Waits m (x .frames) ⊎ Misses m (x .frames) → Ends m (own (x .frames)) r → Cut r
+  nothing-left : {r : Reason} (x : Whole bytes) → Waits m (own (x .frames)) ⊎ Misses m (own (x .frames)) → Ends m (own (x .frames)) r → Cut r
   nothing-left x w t =
       let fs = x .frames in
       at-end (record { before = fs; rest = []; reads = x .reads ∙ sym (append-nil (flatten fs)); all-good = x .all-good; goes-on = w }) nothing refl t
@@ -118,15 +113,15 @@ module _ (rec : List ℕ) (m : ℕ) (bytes : List ℕ) where
               (x .for-firmware, subst (λ (j : ℕ). Closes m rec (own (x .before)) (x .frame) j r) (x .place) k);
         }
 
-    barred : (k : ℕ) → (Waits m (x .before) × Bars TakenWaiting (x .frame) k) ⊎ (Misses m (x .before) × Bars TakenLoading (x .frame) k) → Cut (stopped k i)
+    barred : (k : ℕ) → (Waits m (own (x .before)) × Bars TakenWaiting (x .frame) k) ⊎ (Misses m (own (x .before)) × Bars BlockFrame (x .frame) k) → Cut (stopped k i)
     barred k (inl w) = closing (waits (w .0)) (bars a-load (w .0) k (w .1) refl)
-    barred k (inr w) = closing (still-open (x .before) (inr (w .0))) (bars a-block (shape-of m (w .0 .so-far) refl) k (w .1) refl)
+    barred k (inr w) = closing (still-open (own (x .before)) (inr (w .0))) (bars a-block (w .0 .so-far) k (w .1) refl)
 
-    completed : {r : Reason} (l : Loads m (x .before ++ x .frame ∷ [])) → length (l .blocks) ≡ meaning.needed m l
+    completed : {r : Reason} (l : Loads m (own (x .before ++ x .frame ∷ []))) → length (l .blocks) ≡ needed l
         → Ruled m rec (digestOf (l .load) (l .blocks)) i r → Cut r
     completed l n d =
         let e = own-more (x .before) (x .frame) (x .for-firmware) in
-        closing (misses (x .frame ∷ []) _ e (shape-of m l refl) (omega arith)) (completes (shape-of m l (sym e)) n d)
+        closing (misses (x .frame ∷ []) _ e l (omega arith)) (completes (loads-as m l e) n d)
 
   -- ---- all reasons
 
@@ -142,7 +137,7 @@ module _ (rec : List ℕ) (m : ℕ) (bytes : List ℕ) where
   one-said r q (settled x) a b = a ∙ sym b
   one-said r q asked a b = one-cut a b
 
-  lent : (r : Reason) → Lent rec m → Says r (byType (typeOf rec)) → Says r gate
+  lent : (r : Reason) → LengthsOk rec m → Says r (byType (typeOf rec)) → Says r gate
   lent r l s = rw (eq-eqb (length rec) 256 (l .record-length), le-leb 1 m (l .ram-some), le-leb m 131072 (l .ram-small)) s
 
   asks : {r : Reason} → Asks rec m → Cut r → Says r gate
@@ -165,7 +160,7 @@ module _ (rec : List ℕ) (m : ℕ) (bytes : List ℕ) where
       asks a (at-end (u .frames) part (next-part (u .frames .rest) (u .id) (u .ep) (u .n) (u .header) (u .begun) (u .short)) refl)
   said r (is-waiting a w) = asks a (nothing-left (w .whole) (inl (w .waits)) (for-load (w .waits) refl))
   said r (is-missing a k x) =
-      asks a (nothing-left (x .whole) (inr (x .misses)) (for-blocks (shape-of m (x .misses .so-far) refl) k (x .count) refl))
+      asks a (nothing-left (x .whole) (inr (x .misses)) (for-blocks (x .misses .so-far) k (x .count) refl))
   said r (has-started a s) =
       let w = s .starting in
       asks a (completed
@@ -178,8 +173,7 @@ module _ (rec : List ℕ) (m : ℕ) (bytes : List ℕ) where
         for-firmware = w .last-own;
         place = refl;
       })
-      (record { opening = w .opening; load = w .load; blocks = w .blocks; order = w .order; opens = w .opens; loads = w .loads; carry = w .carry })
-      (w .enough) (starts (w .allowed) refl))
+      (w .loading) (w .enough) (starts (w .allowed) refl))
 
 pub one-reason : (rec : List ℕ) (m : ℕ) (bytes : List ℕ) (r r′ : Reason) → Holds rec m bytes r → Holds rec m bytes r′ → r ≡ r′
 one-reason rec m bytes r r′ h h′ = one-said rec m bytes r r′ (gate rec m bytes) (said rec m bytes r h) (said rec m bytes r′ h′)

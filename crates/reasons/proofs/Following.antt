@@ -29,19 +29,19 @@ use Rattle.head.specs.declared.Progress.{Progress}
 use Rattle.head.specs.declared.State.{State}
 use Rattle.head.specs.declared.Stop.{Stop}
 use Rattle.head.specs.declared.Stop.the-variants.{Command, BodyLength, Digest}
-use Rattle.session.specs.Reading.{Good, forFirmware, bodyOf, LoadFrame, Opens, BlockFrame, carried, sizeOf, programOf, digestOf}
+use Rattle.session.specs.Reading.{Good, forFirmware, bodyOf, LoadFrame, Opens, BlockFrame, carried, sizeOf, programOf, digestOf, Loads, needed}
 use Rattle.session.specs.Session.{Reset, AsksClient}
 use Rattle.session.proofs.Resets.{AllowedOn, config, allows}
 use Rattle.session.proofs.Frames.{All-append, good-some}
 use Rattle.session.proofs.Gathering.{holding}
-use Rattle.session.proofs.Shapes.{Shape, one-shape, no-load, carried-snoc, carries-127, carried-length, load-size}
+use Rattle.session.proofs.Shapes.{one-shape, no-load, carried-snoc, carries-127, carried-length, load-size}
 use Rattle.session.proofs.Acting.{grows, at, loadedWith, Doing, is-waiting, is-loading, more, program-in, all-there, held-frame, held-body}
 use Rattle.diagnosis.specs.Monitor.{freshHash, onward, loadHeard, measured, blockHeard, frameHeard, byReport, isOpen, heardByte}
 use Rattle.diagnosis.specs.declared.Verdict.{Verdict}
 use Rattle.diagnosis.specs.declared.Verdict.the-variants.{Open, Stopped, Started}
 use Rattle.diagnosis.specs.declared.Position.{Position}
 use Rattle.diagnosis.specs.declared.Monitor.{Monitor}
-use Rattle.reasons.specs.Meaning.{TakenWaiting, TakenLoading, NotAllowed, OtherLength}
+use Rattle.reasons.specs.Meaning.{Waits, Misses, TakenWaiting, NotAllowed, OtherLength}
 use Rattle.reasons.specs.Theorems.{Stands}
 use Rattle.reasons.proofs.Places.{Reads, begun}
 use Rattle.reasons.proofs.Hashing.{hashed, hashed-nothing, hashed-more, hashed-all}
@@ -65,7 +65,7 @@ module _ (R : Reset) where
   pub record Follows (os : List (List ℕ)) (bs : List ℕ) (s : State) (w : Monitor) : Type 0 where
     pub live : w .verdict ≡ Open
     pub head : w .head ≡ seen s
-    pub hash : (g : Shape m os) → w .hash ≡ hashed (carried (g .blocks))
+    pub hash : (g : Loads m os) → w .hash ≡ hashed (carried (g .blocks))
     pub placed : Placed bs (w .position)
 
   -- ---- a byte
@@ -96,27 +96,22 @@ module _ (R : Reset) where
   abbrev pub watching : State → Context → Position → List ℕ → Monitor
   watching s c q d = record { head = seen s; hash = c; position = q; verdict = Open; digest = d }
 
-  -- blocks are missing
-  pub record Due (os : List (List ℕ)) : Type 0 where
-    pub shape : Shape m os
-    pub fewer : length (shape .blocks) < blocksFor (sizeOf (shape .load))
-
   -- with f all of a program has come, and its digest is measured
   pub record Weighs (os : List (List ℕ)) (f : List ℕ) (w : Monitor) : Type 0 where
-    pub shape : Shape m (os ++ f ∷ [])
-    pub all-came : length (shape .blocks) ≡ blocksFor (sizeOf (shape .load))
-    pub digest : w .digest ≡ digestOf (shape .load) (shape .blocks)
+    pub load : Loads m (os ++ f ∷ [])
+    pub all-came : length (load .blocks) ≡ needed load
+    pub digest : w .digest ≡ digestOf (load .load) (load .blocks)
 
   -- why the frame f stops a head that has acted on os
   pub data Why (os : List (List ℕ)) (f : List ℕ) (w : Monitor) : Stop → Type 0 where
-    why-command : (All (Opens m) os × NotAllowed TakenWaiting f) ⊎ (Due os × NotAllowed TakenLoading f) → Why os f w Command
-    why-length : (All (Opens m) os × OtherLength TakenWaiting f) ⊎ (Due os × OtherLength TakenLoading f) → Why os f w BodyLength
-    why-digest : (x : Weighs os f w) → (AllowedOn R (digestOf (x .shape .load) (x .shape .blocks)) → ⊥) → Why os f w Digest
+    why-command : (Waits m os × NotAllowed TakenWaiting f) ⊎ (Misses m os × NotAllowed BlockFrame f) → Why os f w Command
+    why-length : (Waits m os × OtherLength TakenWaiting f) ⊎ (Misses m os × OtherLength BlockFrame f) → Why os f w BodyLength
+    why-digest : (x : Weighs os f w) → (AllowedOn R (digestOf (x .load .load) (x .load .blocks)) → ⊥) → Why os f w Digest
 
   -- what acting on f and hearing it lead to
   pub data Agrees (os : List (List ℕ)) (f : List ℕ) (o : Outcome) (w : Monitor) : Type 0 where
     both-go : o .report ≡ continues → w .verdict ≡ Open → w .head ≡ seen (o .state)
-        → ((g : Shape m (os ++ f ∷ [])) → w .hash ≡ hashed (carried (g .blocks))) → Agrees os f o w
+        → ((g : Loads m (os ++ f ∷ [])) → w .hash ≡ hashed (carried (g .blocks))) → Agrees os f o w
     both-stop : (k : Stop) → o .report ≡ stopped (stopNumber k) → w .verdict ≡ Stopped k → Why os f w k → Agrees os f o w
     both-start : (a n : ℕ) → o .report ≡ started a n → w .verdict ≡ Started → Weighs os f w → Agrees os f o w
 
@@ -129,7 +124,7 @@ module _ (R : Reset) where
   module _ (room ram uds : List ℕ) (fits : length ram ≡ m) (small : m ≤ 131072) (client : AsksClient R) (os : List (List ℕ)) (c : Context) (q : Position)
       (d : List ℕ) where
     -- there is no good load yet
-    no-shape : (f : List ℕ) → All (Opens m) os → Opens m f → (g : Shape m (os ++ f ∷ [])) → c ≡ hashed (carried (g .blocks))
+    no-shape : (f : List ℕ) → All (Opens m) os → Opens m f → (g : Loads m (os ++ f ∷ [])) → c ≡ hashed (carried (g .blocks))
     no-shape f a o g = absurd (no-load m (os ++ f ∷ []) (All-append (Opens m) os (f ∷ []) a (o, tt)) (g .opening) (g .load) (g .blocks) (g .loads) (g .order))
 
     abbrev Both : List ℕ → State → Request → Type 0
@@ -159,7 +154,7 @@ module _ (R : Reset) where
     both-waiting f a i e r (w-command x) = both-stop Command refl refl (why-command (inl (a, x)))
     both-waiting f a i e r (w-length x) = both-stop BodyLength refl refl (why-length (inl (a, x)))
 
-    module _ (g : Shape m os) (due : length (g .blocks) < blocksFor (sizeOf (g .load))) (held : take (127 * length (g .blocks)) ram ≡ carried (g .blocks))
+    module _ (g : Loads m os) (due : length (g .blocks) < blocksFor (sizeOf (g .load))) (held : take (127 * length (g .blocks)) ram ≡ carried (g .blocks))
         (hash : c ≡ hashed (carried (g .blocks))) (f : List ℕ) (b : BlockFrame f) where
       abbrev n : ℕ
       n = sizeOf (g .load)
@@ -203,7 +198,7 @@ module _ (R : Reset) where
           ap (λ (x : Context). finishOutput x (zeros 32)) hash-more ∙ hashed-all (carried (g .blocks) ++ part) ∙ ap (λ (x : List ℕ). blake2s [] x 32) (hash-last z)
 
       abbrev weighs : isLast n k ≡ true → (w : Monitor) → w .digest ≡ digest → Weighs os f w
-      weighs z w e = record { shape = more R room ram uds fits os g due held f b; all-came = all-there R room ram uds fits os g due held f b z; digest = e }
+      weighs z w e = record { load = more R room ram uds fits os g due held f b; all-came = all-there R room ram uds fits os g due held f b z; digest = e }
 
       both-last : (z : isLast n k ≡ true) (i : Incoming) (x y : List ℕ) → x ≡ digest → y ≡ digest → (ram1 : List ℕ)
           → let s = at R i (loadedWith R (g .load) k) in Agrees os f (finishedWith x s room ram1 uds) (measured (watching s c q d) y)
@@ -251,16 +246,16 @@ module _ (R : Reset) where
               let u = grows m os (f ∷ []) g h in
               context-is ∙ hash-more ∙ hash-block z ∙ ap (λ (x : List (List ℕ)). hashed (carried x)) (u .1))
 
-    both-loading : (g : Shape m os) (due : length (g .blocks) < blocksFor (sizeOf (g .load))) → take (127 * length (g .blocks)) ram ≡ carried (g .blocks)
+    both-loading : (g : Loads m os) (due : length (g .blocks) < blocksFor (sizeOf (g .load))) → take (127 * length (g .blocks)) ram ≡ carried (g .blocks)
         → c ≡ hashed (carried (g .blocks)) → (f : List ℕ) (i : Incoming) → (length (bodyOf f) ≡ 128 → i .header ∷ i .body ≡ f) → (r : Request) → AsksLoading f r
         → Both f (at R i (loadedWith R (g .load) (length (g .blocks)))) r
     both-loading g due t h f i e r (a-block b) = both-block g due t h f b i (e (b .0))
-    both-loading g due t h f i e r (l-command x) = both-stop Command refl refl (why-command (inr (record { shape = g; fewer = due }, x)))
-    both-loading g due t h f i e r (l-length x) = both-stop BodyLength refl refl (why-length (inr (record { shape = g; fewer = due }, x)))
+    both-loading g due t h f i e r (l-command x) = both-stop Command refl refl (why-command (inr (record { so-far = g; fewer = due }, x)))
+    both-loading g due t h f i e r (l-length x) = both-stop BodyLength refl refl (why-length (inr (record { so-far = g; fewer = due }, x)))
 
     -- ---- the frame that was gathered
 
-    module _ (hash : (g : Shape m os) → c ≡ hashed (carried (g .blocks))) where
+    module _ (hash : (g : Loads m os) → c ≡ hashed (carried (g .blocks))) where
       doing : (h x : ℕ) (y : List ℕ) → forFirmware (h ∷ x ∷ y) ≡ true → Good (h ∷ x ∷ y) → (p : Progress) → Doing R ram os p
           → Both (h ∷ x ∷ y) (at R (holding (h ∷ x ∷ y)) p) (requestIn (p .phase) x (bodyLen (headerAt h)))
       doing h x y o v p (is-waiting a) =

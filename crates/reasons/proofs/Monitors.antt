@@ -24,7 +24,7 @@ use Rattle.diagnosis.specs.declared.Refusal.the-variants.{RecordLength, RamSize
 use Rattle.diagnosis.specs.declared.Verdict.{Verdict}
 use Rattle.diagnosis.specs.declared.Verdict.the-variants.{Open, Refused, Stopped, Started}
 use Rattle.diagnosis.specs.declared.Monitor.{Monitor}
-use Rattle.reasons.specs.Meaning.{Lent, Asks}
+use Rattle.reasons.specs.Meaning.{LengthsOk, Asks}
 use Rattle.reasons.specs.Theorems.{goesOn}
 use Rattle.diagnosis.proofs.Walk.{byte-near, heard-ended}
 
@@ -50,20 +50,20 @@ by-source r m P (suc (suc (suc (suc (suc (suc n)))))) x y z =
 module _ (rec : List ℕ) (m : ℕ) (P : Monitor → Type 0) where
   pub by-begun : ((length rec ≡ 256 → ⊥) → P (closed (Refused RecordLength)))
       → (length rec ≡ 256 → ((1 ≤ m) × (m ≤ 131072) → ⊥) → P (closed (Refused RamSize)))
-      → (Lent rec m → typeOf rec ≤ 3 → P (closed (Refused FromFlash)))
+      → (LengthsOk rec m → typeOf rec ≤ 3 → P (closed (Refused FromFlash)))
       → (Asks rec m → P (opened (recordAt rec) m))
-      → (Lent rec m → 6 ≤ typeOf rec → P (closed (Stopped UnknownType)))
+      → (LengthsOk rec m → 6 ≤ typeOf rec → P (closed (Stopped UnknownType)))
       → P (begun rec m)
   unfolding begun recordAt
   by-begun a b c d e = go (eqb (length rec) 256) refl (lengthOk m) refl
     where
-      lent : length rec ≡ 256 → lengthOk m ≡ true → Lent rec m
+      lent : length rec ≡ 256 → lengthOk m ≡ true → LengthsOk rec m
       lent l k = let f = length-facts m k in record { record-length = l; ram-some = f .0; ram-small = f .1 }
 
       in-range : (1 ≤ m) × (m ≤ 131072) → lengthOk m ≡ true
       in-range f = rw (le-leb 1 m (f .0), le-leb m 131072 (f .1))
 
-      known : Lent rec m → P (bySource (sourceOf (knownType (typeOf rec))) (recordAt rec) m)
+      known : LengthsOk rec m → P (bySource (sourceOf (knownType (typeOf rec))) (recordAt rec) m)
       known l = by-source (recordAt rec) m P (typeOf rec) (c l) (λ t. d (record { lent = l; client = t })) (e l)
 
       go : (x : Bool) → eqb (length rec) 256 ≡ x → (y : Bool) → lengthOk m ≡ y

@@ -12,7 +12,7 @@ use Rattle.endian.specs.Lists.{zeros, All, Words}
 use Rattle.record.specs.Record.{recordAt}
 use Rattle.head.specs.Answers as head
 use Rattle.head.specs.Begin.{flashOf}
-use Rattle.session.specs.Reading.{Good, own, sizeOf, digestOf, typeOf, Starting}
+use Rattle.session.specs.Reading.{Good, own, sizeOf, digestOf, typeOf, Loads, needed, Starting}
 use Rattle.session.specs.Session.{Reset, begun, AsksClient, Admitted, Call, Entry, log, accepted, OneRam, Session, ramLen, allOf}
 use Rattle.session.specs.Boot.{Started}
 use Rattle.session.proofs.Begins.{Fresh, begin-accepted, fresh}
@@ -34,10 +34,11 @@ use Rattle.diagnosis.specs.declared.Verdict.{Verdict}
 use Rattle.diagnosis.specs.declared.Verdict.the-variants.{Refused, Stopped}
 use Rattle.diagnosis.specs.declared.Refusal.the-variants.{RecordLength, RamSize, FromFlash}
 use Rattle.head.specs.declared.Stop.the-variants.{UnknownType}
-use Rattle.reasons.specs.Meaning.{Loads, needed, Lent, FrameAt, BadHeader, Holds, record-length, ram-size, from-flash, unknown-type, bad-header, bad-command, bad-length, bad-digest, is-unfinished, is-waiting, is-missing, has-started}
+use Rattle.reasons.specs.Meaning.{LengthsOk, FrameAt, BadHeader, Holds, record-length, ram-size, from-flash, unknown-type, bad-header, bad-command, bad-length, bad-digest, is-unfinished, is-waiting, is-missing, has-started}
 use Rattle.reasons.specs.Theorems.{reasonFor, goesOn, Stands, isMeasured, Hears, endsOf, endIn, Hearing, Diagnoses}
 use Rattle.reasons.proofs.Next.{Onward, compare}
-use Rattle.reasons.proofs.Exclusive.{shape-of, one-reason}
+use Rattle.reasons.proofs.Closing.{loads-as}
+use Rattle.reasons.proofs.Exclusive.{one-reason}
 use Rattle.reasons.proofs.Places.{one-count}
 use Rattle.reasons.proofs.Following.{seen, Follows}
 use Rattle.reasons.proofs.Monitors.{reasonIn, by-begun, heard-both, heard-after, heard-counts, open-goes, no-earlier}
@@ -162,7 +163,7 @@ resetOf rec m =
 length-zeros : (m : ℕ) → length (zeros m) ≡ m
 length-zeros m = length-replicate m 0
 
-admits : (rec : List ℕ) (m : ℕ) → Lent rec m → Admitted (resetOf rec m)
+admits : (rec : List ℕ) (m : ℕ) → LengthsOk rec m → Admitted (resetOf rec m)
 admits rec m l =
     let e = length-zeros m in
     let s = l .ram-some in
@@ -250,7 +251,7 @@ at-begin : (R : Reset) (bytes : List ℕ) → Admitted R → (begun R .report �
 at-begin R bytes a =
     let rec = R .rec in
     let m = length (R .ram) in
-    let l : Lent rec m = record { record-length = a .record-length; ram-some = a .ram-some; ram-small = a .ram-small } in (
+    let l : LengthsOk rec m = record { record-length = a .record-length; ram-some = a .ram-some; ram-small = a .ram-small } in (
       λ e. sym (only rec m bytes (stopped 20 0) (unknown-type l (verified-boot .begin-stops R .stop-20 .0 e .1))),
       λ e. verified-boot .begin-stops R .stop-20 .1 (a, unknown rec m bytes _ (holds rec m bytes) (ap stopIn e)),
     )
@@ -352,21 +353,21 @@ unfolding diagnosis explained
 stands rec m bytes = claims rec m bytes .stands
 
 -- two loads of which all has come, in the same bytes, are one
-module _ (m : ℕ) (fs gs : List (List ℕ)) (l : Loads m fs) (k : Loads m gs) (el : length (l .blocks) ≡ needed m l) (ek : length (k .blocks) ≡ needed m k) where
+module _ (m : ℕ) (fs gs : List (List ℕ)) (l : Loads m (own fs)) (k : Loads m (own gs)) (el : length (l .blocks) ≡ needed l) (ek : length (k .blocks) ≡ needed k) where
   abbrev Same : Type 0
   Same = (l .load ≡ k .load) × (l .blocks ≡ k .blocks)
 
   same-load : (t u : List ℕ) → Onward fs t gs u → Same
   same-load t u o =
       let e : own gs ≡ own fs ++ own (o .more) = ap own (o .frames) ∙ own-append fs (o .more) in
-      let x = grows m (own fs) (own (o .more)) (shape-of m l refl) (shape-of m k (sym e)) in
+      let x = grows m (own fs) (own (o .more)) l (loads-as m k e) in
       let n : length (l .blocks) + length (own (o .more)) ≡ length (k .blocks) = sym (length-append (l .blocks) (own (o .more))) ∙ ap length (x .1) in
-      let s : needed m l ≡ needed m k = ap (λ (f : List ℕ). blocksFor (sizeOf f)) (x .0) in
+      let s : needed l ≡ needed k = ap (λ (f : List ℕ). blocksFor (sizeOf f)) (x .0) in
       let z = empty-rest (own (o .more)) (omega arith) in
       (x .0, sym (append-nil (l .blocks)) ∙ ap (λ (y : List (List ℕ)). l .blocks ++ y) (sym z) ∙ x .1)
 
 measured : (rec : List ℕ) (m : ℕ) (bytes : List ℕ) → isMeasured (reasonFor rec m bytes) ≡ true
-    → (fs : List (List ℕ)) (rest : List ℕ) → bytes ≡ flatten fs ++ rest → All Good fs → (l : Loads m fs) → length (l .blocks) ≡ needed m l
+    → (fs : List (List ℕ)) (rest : List ℕ) → bytes ≡ flatten fs ++ rest → All Good fs → (l : Loads m (own fs)) → length (l .blocks) ≡ needed l
     → diagnosis rec m bytes .digest ≡ digestOf (l .load) (l .blocks)
 unfolding diagnosis explained
 measured rec m bytes t fs rest e a l n =

@@ -9,7 +9,6 @@ use lib.Dec.{eqb}
 use lib.ListN.{length, take}
 use lib.Seq.{take-append-seam}
 use borrow.Author.Tests.{ne-eqb, eq-eqb, le-ltb}
-use Rattle.endian.specs.Lists.{All}
 use Rattle.endian.proofs.Cases.{impossible}
 use Rattle.framing.specs.Header.{stop, headerAt}
 use Rattle.protocol.specs.Commands.{blocksFor}
@@ -26,13 +25,13 @@ use Rattle.head.specs.declared.Progress.{Progress}
 use Rattle.head.specs.declared.State.{State}
 use Rattle.head.specs.declared.Stop.{Stop}
 use Rattle.head.specs.declared.Stop.the-variants.{HeaderBit}
-use Rattle.session.specs.Reading.{Good, Opens, own, sizeOf, typeOf, Allowed, Starting}
+use Rattle.session.specs.Reading.{Good, own, sizeOf, typeOf, Allowed, Starting}
 use Rattle.session.specs.Session.{Reset, AsksClient, Admitted, Loan, Call, gather, act, Entry, gathers, acts, reportIn, Among, log, isAccepted, accepted, OneRam}
 use Rattle.session.proofs.Resets.{ReadsOn}
 use Rattle.session.proofs.Frames.{own-more}
 use Rattle.session.proofs.Gathering.{holding, Partial, Gathers, at-bad, at-part, at-passed, at-whole, length-snoc}
 use Rattle.session.proofs.Gathering as gathering
-use Rattle.session.proofs.Shapes.{Shape, All-last}
+use Rattle.session.proofs.Shapes.{All-last}
 use Rattle.session.proofs.Acting.{at, Doing, is-waiting, is-loading}
 use Rattle.session.proofs.Calls.{Live, Full, AfterGather, unfinished, complete, bad-header, after-gather, AfterAct, goes-on, has-started, has-stopped, after-act}
 use Rattle.session.proofs.Entries.{among-first, numberOf, call-taken, nothing-started, nothing-stopped}
@@ -43,12 +42,13 @@ use Rattle.diagnosis.specs.declared.Verdict.{Verdict}
 use Rattle.diagnosis.specs.declared.Verdict.the-variants.{Stopped}
 use Rattle.diagnosis.specs.declared.Position.{Position}
 use Rattle.diagnosis.specs.declared.Monitor.{Monitor}
-use Rattle.reasons.specs.Meaning.{Waits, Loads, Misses, Whole, FrameAt, Asks, Holds}
+use Rattle.reasons.specs.Meaning.{Waits, Misses, Whole, FrameAt, Asks, Holds}
 use Rattle.reasons.specs.Meaning as meaning
 use Rattle.reasons.specs.Theorems.{Stands, isMeasured, Fits, Next, Hears, endAt, endsOf, endIn}
+use Rattle.reasons.proofs.Closing.{loads-as}
 use Rattle.reasons.proofs.Places.{Reads, begun, one-count, reads-part, reads-whole, stands-next}
 use Rattle.reasons.proofs.Monitors.{reasonIn, heard-after}
-use Rattle.reasons.proofs.Following.{Placed, seen, Follows, heard-byte, watching, Due, Weighs, Why, why-command, why-length, why-digest, Agrees, both-go, both-stop, both-start, both}
+use Rattle.reasons.proofs.Following.{Placed, seen, Follows, heard-byte, watching, Weighs, Why, why-command, why-length, why-digest, Agrees, both-go, both-stop, both-start, both}
 use Rattle.diagnosis.proofs.Walk.{frame-stays}
 use Rattle.reasons.proofs.Ends.{monitor-is, unmeasured, no-ends, StartIn, start-later, start-before, no-start, not-started, Measured}
 
@@ -79,19 +79,15 @@ module _ (R : Reset) (lent : Admitted R) (client : AsksClient R) where
 
   -- ---- while the head goes on
 
-  waits-for : (fs os : List (List ℕ)) → own fs ≡ os → All (Opens m) os → Waits m fs
-  waits-for fs os e a = subst (All (Opens m)) (sym e) a
+  waits-for : (fs os : List (List ℕ)) → own fs ≡ os → Waits m os → Waits m (own fs)
+  waits-for fs os e a = subst (Waits m) (sym e) a
 
-  abbrev loads-with : (fs os : List (List ℕ)) → own fs ≡ os → Shape m os → Loads m fs
-  loads-with fs os e g =
-      record { opening = g .opening; load = g .load; blocks = g .blocks; order = e ∙ g .order; opens = g .opens; loads = g .loads; carry = g .carry }
+  abbrev misses-with : (fs os : List (List ℕ)) → own fs ≡ os → Misses m os → Misses m (own fs)
+  misses-with fs os e x = record { so-far = loads-as m (x .so-far) (sym e); fewer = x .fewer }
 
-  abbrev misses-with : (fs os : List (List ℕ)) → own fs ≡ os → Due R os → Misses m fs
-  misses-with fs os e x = record { so-far = loads-with fs os e (x .shape); fewer = x .fewer }
-
-  goes-with : (fs os : List (List ℕ)) (r : List ℕ) (p : Progress) → own fs ≡ os → Doing R r os p → Waits m fs ⊎ Misses m fs
+  goes-with : (fs os : List (List ℕ)) (r : List ℕ) (p : Progress) → own fs ≡ os → Doing R r os p → Waits m (own fs) ⊎ Misses m (own fs)
   goes-with fs os r p e (is-waiting a) = inl (waits-for fs os e a)
-  goes-with fs os r p e (is-loading g due t) = inr (misses-with fs os e (record { shape = g; fewer = due }))
+  goes-with fs os r p e (is-loading g due t) = inr (misses-with fs os e (record { so-far = g; fewer = due }))
 
   -- the reason where no byte comes any more
   module _ (os : List (List ℕ)) (bs : List ℕ) (s : State) (r : List ℕ) (v : Live R os bs s r) where
@@ -111,7 +107,7 @@ module _ (R : Reset) (lent : Admitted R) (client : AsksClient R) where
           meaning.is-missing asks (n - k)
               (record {
                 whole = whole-frames e;
-                misses = misses-with (v .frames) os (v .owned) (record { shape = g; fewer = due });
+                misses = misses-with (v .frames) os (v .owned) (record { so-far = g; fewer = due });
                 count = omega (arith, due);
               }),
         )
@@ -227,7 +223,7 @@ module _ (R : Reset) (lent : Admitted R) (client : AsksClient R) where
     own-all : own (v .frames ++ f ∷ []) ≡ os ++ f ∷ []
     own-all = own-more (v .frames) f (v .last-own) ∙ ap (λ (x : List (List ℕ)). x ++ f ∷ []) (v .owned)
 
-    by-phase : (W L : Type 0) → (All (Opens m) os × W) ⊎ (Due R os × L) → (Waits m (v .frames) × W) ⊎ (Misses m (v .frames) × L)
+    by-phase : (W L : Type 0) → (Waits m os × W) ⊎ (Misses m os × L) → (Waits m (own (v .frames)) × W) ⊎ (Misses m (own (v .frames)) × L)
     by-phase W L (inl x) = inl (waits-for (v .frames) os (v .owned) (x .0), x .1)
     by-phase W L (inr x) = inr (misses-with (v .frames) os (v .owned) (x .0), x .1)
 
@@ -238,7 +234,7 @@ module _ (R : Reset) (lent : Admitted R) (client : AsksClient R) where
         meaning.bad-length asks (length bs) (record { at = frame-at; other-length = by-phase _ _ x })
     frame-stops w k (why-digest x a) =
         meaning.bad-digest asks (length bs)
-        (record { at = frame-at; load = loads-with (v .frames ++ f ∷ []) _ own-all (x .shape); all-came = x .all-came; barred = λ y. a (allowed-any [] _ _ y) })
+        (record { at = frame-at; load = loads-as m (x .load) (sym own-all); all-came = x .all-came; barred = λ y. a (allowed-any [] _ _ y) })
 
     weighed : (w : Monitor) → Weighs R os f w → Measured m (bs ++ rest) w
     weighed w x =
@@ -247,7 +243,7 @@ module _ (R : Reset) (lent : Admitted R) (client : AsksClient R) where
           after = rest;
           reads = ap (λ (y : List ℕ). y ++ rest) (v .whole);
           all-good = v .all-good;
-          load = loads-with (v .frames ++ f ∷ []) _ own-all (x .shape);
+          load = loads-as m (x .load) (sym own-all);
           all-came = x .all-came;
           digest = x .digest;
         }
@@ -267,13 +263,7 @@ module _ (R : Reset) (lent : Admitted R) (client : AsksClient R) where
         nothing-left = w .nothing-left;
         last-own = w .last-own;
         last-block = w .last-block;
-        opening = w .opening;
-        load = w .load;
-        blocks = w .blocks;
-        order = w .order;
-        opens = w .opens;
-        loads = w .loads;
-        carry = w .carry;
+        loading = w .loading;
         enough = w .enough;
         allowed = allowed-any (R .flash .builtIn) [] _ (w .allowed);
       }

@@ -8,64 +8,47 @@ use mathlib.Core.List.{List, [], _∷_, _++_, flatten}
 use lib.ListN.{length, getD}
 use Rattle.endian.specs.Lists.{All}
 use Rattle.framing.specs.Header.{good, stop, headerAt}
-use Rattle.protocol.specs.Commands.{commandIn, blocksFor}
-use Rattle.session.specs.Reading.{Good, forFirmware, own, bodyOf, GoodLoad, Opens, BlockFrame, sizeOf, digestOf, typeOf, Allowed, Starting}
+use Rattle.protocol.specs.Commands.{commandIn}
+use Rattle.session.specs.Reading.{Good, forFirmware, own, QueryFrame, LoadFrame, Opens, BlockFrame, digestOf, typeOf, Allowed, Loads, needed, Starting}
 use Rattle.diagnosis.specs.Reasons.{Reason, refused, stopped, unfinished, waiting, missing, started}
 
--- ---- how far whole frames bring a load
+-- ---- how far frames bring a load: os are those with endpoint 2
 
 module _ (m : ℕ) where
-  -- a load is waited for: those for the firmware are queries and bad loads
+  -- a load is waited for: all are queries and bad loads
   abbrev pub Waits : List (List ℕ) → Type 0
-  Waits fs = All (Opens m) (own fs)
+  Waits os = All (Opens m) os
 
-  -- a good load has come after such frames, and then blocks
-  pub record Loads (fs : List (List ℕ)) : Type 0 where
-    pub opening : List (List ℕ)
-    pub load : List ℕ
-    pub blocks : List (List ℕ)
-    pub order : own fs ≡ opening ++ load ∷ blocks
-    pub opens : All (Opens m) opening
-    pub loads : GoodLoad m load
-    pub carry : All BlockFrame blocks
-
-  -- how many blocks its program needs
-  abbrev pub needed : {fs : List (List ℕ)} → Loads fs → ℕ
-  needed l = blocksFor (sizeOf (l .load))
-
-  -- some of them have not come
-  pub record Misses (fs : List (List ℕ)) : Type 0 where
-    pub so-far : Loads fs
+  -- blocks are waited for: a good load has come, and too few of them
+  pub record Misses (os : List (List ℕ)) : Type 0 where
+    pub so-far : Loads m os
     pub fewer : length (so-far .blocks) < needed so-far
 
--- ---- the table of commands: a command, and the length of its body
+-- ---- the table of commands
 
--- while a load is waited for
-abbrev pub TakenWaiting : ℕ → ℕ → Type 0
-TakenWaiting c n = ((c ≡ 0x01) × (n ≡ 1)) ⊎ (((c ≡ 0x08) × (n ≡ 1)) ⊎ ((c ≡ 0x03) × (n ≡ 128)))
+-- the frames that are taken while a load is waited for; while blocks are waited for, those are `BlockFrame`
+abbrev pub TakenWaiting : List ℕ → Type 0
+TakenWaiting f = QueryFrame f ⊎ LoadFrame f
 
--- while blocks are
-abbrev pub TakenLoading : ℕ → ℕ → Type 0
-TakenLoading c n = (c ≡ 0x05) × (n ≡ 128)
+-- no frame with the command of f is taken
+abbrev pub NotAllowed : (List ℕ → Type 0) → List ℕ → Type 0
+NotAllowed T f = (g : List ℕ) → commandIn g ≡ commandIn f → T g → ⊥
 
--- what a table says of a frame: its command is not in it, or has another length there
-abbrev pub NotAllowed : (ℕ → ℕ → Type 0) → List ℕ → Type 0
-NotAllowed T f = (n : ℕ) → T (commandIn f) n → ⊥
-
-abbrev pub OtherLength : (ℕ → ℕ → Type 0) → List ℕ → Type 0
-OtherLength T f = ((n : ℕ) × T (commandIn f) n) × (T (commandIn f) (length (bodyOf f)) → ⊥)
+-- one is, and f is not: it has another body length
+abbrev pub OtherLength : (List ℕ → Type 0) → List ℕ → Type 0
+OtherLength T f = ((g : List ℕ) × (commandIn g ≡ commandIn f) × T g) × (T f → ⊥)
 
 -- ---- the reasons
 
 -- refusals 6 and 7 do not apply
-pub record Lent (rec : List ℕ) (m : ℕ) : Type 0 where
+pub record LengthsOk (rec : List ℕ) (m : ℕ) : Type 0 where
   pub record-length : length rec ≡ 256
   pub ram-some : 1 ≤ m
   pub ram-small : m ≤ 131072
 
 -- and a program from the cable is asked for
 pub record Asks (rec : List ℕ) (m : ℕ) : Type 0 where
-  pub lent : Lent rec m
+  pub lent : LengthsOk rec m
   pub client : (typeOf rec ≡ 4) ⊎ (typeOf rec ≡ 5)
 
 -- whole good frames one after the other, with nothing left over
@@ -91,7 +74,7 @@ module _ (m : ℕ) (bytes : List ℕ) where
     pub rest : List ℕ
     pub reads : bytes ≡ flatten before ++ rest
     pub all-good : All Good before
-    pub goes-on : Waits m before ⊎ Misses m before
+    pub goes-on : Waits m (own before) ⊎ Misses m (own before)
 
   -- stop 22 at byte i: a header with bit 7 or bit 2 set, whatever its endpoint
   pub record BadHeader (i : ℕ) : Type 0 where
@@ -105,12 +88,12 @@ module _ (m : ℕ) (bytes : List ℕ) where
   -- stop 23 at byte i: a command that is not allowed then, unknown ones included
   pub record BadCommand (i : ℕ) : Type 0 where
     pub at : FrameAt bytes i
-    pub not-allowed : (Waits m (at .before) × NotAllowed TakenWaiting (at .frame)) ⊎ (Misses m (at .before) × NotAllowed TakenLoading (at .frame))
+    pub not-allowed : (Waits m (own (at .before)) × NotAllowed TakenWaiting (at .frame)) ⊎ (Misses m (own (at .before)) × NotAllowed BlockFrame (at .frame))
 
   -- stop 24 at byte i: a command that is, with another body length
   pub record BadLength (i : ℕ) : Type 0 where
     pub at : FrameAt bytes i
-    pub other-length : (Waits m (at .before) × OtherLength TakenWaiting (at .frame)) ⊎ (Misses m (at .before) × OtherLength TakenLoading (at .frame))
+    pub other-length : (Waits m (own (at .before)) × OtherLength TakenWaiting (at .frame)) ⊎ (Misses m (own (at .before)) × OtherLength BlockFrame (at .frame))
 
   -- the bytes end in a frame that is not whole
   pub record Unfinished : Type 0 where
@@ -125,20 +108,20 @@ module _ (m : ℕ) (bytes : List ℕ) where
   -- whole frames, and no good load
   pub record Waiting : Type 0 where
     pub whole : Whole bytes
-    pub waits : Waits m (whole .frames)
+    pub waits : Waits m (own (whole .frames))
 
   -- whole frames, and k blocks too few
   pub record Missing (k : ℕ) : Type 0 where
     pub whole : Whole bytes
-    pub misses : Misses m (whole .frames)
-    pub count : length (misses .so-far .blocks) + k ≡ needed m (misses .so-far)
+    pub misses : Misses m (own (whole .frames))
+    pub count : length (misses .so-far .blocks) + k ≡ needed (misses .so-far)
 
 module _ (rec : List ℕ) (m : ℕ) (bytes : List ℕ) where
-  -- stop 25 at byte i: the last block, and a program whose digest is not allowed. For types 4 and 5 none is built in
+  -- stop 25 at byte i: the last block, and a program whose digest is not allowed. For types 4 and 5 the built-in digest is not looked at
   pub record BadDigest (i : ℕ) : Type 0 where
     pub at : FrameAt bytes i
-    pub load : Loads m (at .before ++ at .frame ∷ [])
-    pub all-came : length (load .blocks) ≡ needed m load
+    pub load : Loads m (own (at .before ++ at .frame ∷ []))
+    pub all-came : length (load .blocks) ≡ needed load
     pub barred : Allowed rec [] (digestOf (load .load) (load .blocks)) → ⊥
 
   -- the bytes, up to some, read as those of a start
@@ -152,8 +135,8 @@ module _ (rec : List ℕ) (m : ℕ) (bytes : List ℕ) where
   pub data Holds : Reason → Type 0 where
     record-length : (length rec ≡ 256 → ⊥) → Holds (refused 6)
     ram-size : length rec ≡ 256 → ((1 ≤ m) × (m ≤ 131072) → ⊥) → Holds (refused 7)
-    from-flash : Lent rec m → typeOf rec ≤ 3 → Holds (refused 48)
-    unknown-type : Lent rec m → 6 ≤ typeOf rec → Holds (stopped 20 0)
+    from-flash : LengthsOk rec m → typeOf rec ≤ 3 → Holds (refused 48)
+    unknown-type : LengthsOk rec m → 6 ≤ typeOf rec → Holds (stopped 20 0)
     bad-header : Asks rec m → (i : ℕ) → BadHeader m bytes i → Holds (stopped 22 i)
     bad-command : Asks rec m → (i : ℕ) → BadCommand m bytes i → Holds (stopped 23 i)
     bad-length : Asks rec m → (i : ℕ) → BadLength m bytes i → Holds (stopped 24 i)

@@ -9,7 +9,7 @@ use lib.Dec.{eqb}
 use lib.ListN.{length, getD, take}
 use Rattle.endian.specs.Lists.{All, Words}
 use Rattle.framing.specs.Header.{headerAt, bodyLen}
-use Rattle.session.specs.Reading.{Good, digestOf, Starting}
+use Rattle.session.specs.Reading.{Good, own, digestOf, Loads, needed, Starting}
 use Rattle.head.specs.Answers as head
 use Rattle.head.specs.Answers.{Report, reportsWhole}
 use Rattle.session.specs.Session.{Reset, begun, AsksClient, Admitted, Loan, Entry, gathers, acts, Session, ramLen, allOf}
@@ -18,7 +18,7 @@ use Rattle.diagnosis.specs.Reasons.{Reason, refused, stopped, unfinished, waiti
 use Rattle.diagnosis.specs.Monitor as monitor
 use Rattle.diagnosis.specs.Monitor.{heard, hearing, diagnosis}
 use Rattle.diagnosis.specs.declared.Monitor.{Monitor}
-use Rattle.reasons.specs.Meaning.{Loads, needed, Holds}
+use Rattle.reasons.specs.Meaning.{Holds}
 use Rattle.reasons.specs.Examples.{Told, examples}
 
 -- the reason that a diagnosis tells
@@ -140,7 +140,7 @@ pub record Diagnoses : Type 0 where
   pub stands : (rec : List ℕ) (m : ℕ) (bytes : List ℕ) → let d = diagnosis rec m bytes in 1 ≤ d .byte → Stands bytes (d .byte) (d .frame) (d .offset)
   -- the digest, at a start and at stop 25, is that of the program which the bytes carry, however they are read as whole good frames with all of it
   pub measured : (rec : List ℕ) (m : ℕ) (bytes : List ℕ) → isMeasured (reasonFor rec m bytes) ≡ true
-      → (fs : List (List ℕ)) (rest : List ℕ) → bytes ≡ flatten fs ++ rest → All Good fs → (l : Loads m fs) → length (l .blocks) ≡ needed m l
+      → (fs : List (List ℕ)) (rest : List ℕ) → bytes ≡ flatten fs ++ rest → All Good fs → (l : Loads m (own fs)) → length (l .blocks) ≡ needed l
       → diagnosis rec m bytes .digest ≡ digestOf (l .load) (l .blocks)
   -- bytes may be told in parts, and the counts have room for 2^64 - 1 of them
   pub parts : (w : Monitor) (xs ys : List ℕ) → heard w (xs ++ ys) ≡ heard (heard w xs) ys

@@ -24,12 +24,12 @@ use Rattle.head.specs.Begin.{waiting}
 use Rattle.head.specs.Start.{allowed, starting, decided}
 use Rattle.head.specs.Act.{Request, givesLoad, requestIn, frameIn, requestOf, storedIn, replying, loadAnswer, afterLoad, finishedWith, actedBlock, performed}
 use Rattle.head.proofs.Ranges.{never, by-test, length-some}
-use Rattle.session.specs.Reading.{Good, forFirmware, bodyOf, QueryFrame, LoadFrame, Opens, BlockFrame, carried, sizeOf, programOf, digestOf, chained, measuredId}
+use Rattle.session.specs.Reading.{Good, forFirmware, bodyOf, QueryFrame, LoadFrame, Opens, BlockFrame, carried, sizeOf, programOf, digestOf, chained, measuredId, Loads}
 use Rattle.session.specs.Session.{Reset}
 use Rattle.session.proofs.Resets.{AllowedOn, config, allows}
 use Rattle.session.proofs.Frames.{All-append, good-some}
 use Rattle.session.proofs.Gathering.{holding, length-snoc}
-use Rattle.session.proofs.Shapes.{AskedWaiting, asks-name, asks-udi, asks-load, asks-neither, asked-waiting, AskedLoading, asks-block, asks-no-block, asked-loading, Shape, one-shape, next-is, no-load, carried-snoc, carries-127, carried-length, load-size, All-last}
+use Rattle.session.proofs.Shapes.{AskedWaiting, asks-name, asks-udi, asks-load, asks-neither, asked-waiting, AskedLoading, asks-block, asks-no-block, asked-loading, one-shape, next-is, no-load, carried-snoc, carries-127, carried-length, load-size, All-last}
 use Rattle.head.specs.declared.Phase.the-variants as phase
 use Rattle.head.specs.declared.Incoming.{Incoming}
 use Rattle.head.specs.declared.Progress.{Progress}
@@ -40,7 +40,7 @@ empty-rest [] e = refl
 empty-rest (x ∷ xs) e = absurd (omega arith)
 
 -- a shape that goes on is the same shape with more blocks
-pub grows : (m : ℕ) (os hs : List (List ℕ)) (g : Shape m os) (h : Shape m (os ++ hs)) → (g .load ≡ h .load) × (g .blocks ++ hs ≡ h .blocks)
+pub grows : (m : ℕ) (os hs : List (List ℕ)) (g : Loads m os) (h : Loads m (os ++ hs)) → (g .load ≡ h .load) × (g .blocks ++ hs ≡ h .blocks)
 grows m os hs g h =
     let e : g .opening ++ g .load ∷ (g .blocks ++ hs) ≡ h .opening ++ h .load ∷ h .blocks =
     sym (append-assoc (g .opening) (g .load ∷ g .blocks) hs) ∙ ap (λ (x : List (List ℕ)). x ++ hs) (sym (g .order)) ∙ h .order in
@@ -62,16 +62,16 @@ module _ (R : Reset) where
   -- the progress that frames for the firmware lead to, with RAM r
   pub data Doing (r : List ℕ) (os : List (List ℕ)) : Progress → Type 0 where
     is-waiting : All (Opens m) os → Doing r os waiting
-    is-loading : (g : Shape m os) → length (g .blocks) < blocksFor (sizeOf (g .load)) → take (127 * length (g .blocks)) r ≡ carried (g .blocks)
+    is-loading : (g : Loads m os) → length (g .blocks) < blocksFor (sizeOf (g .load)) → take (127 * length (g .blocks)) r ≡ carried (g .blocks)
         → Doing r os (loadedWith (g .load) (length (g .blocks)))
 
   -- a shape that a start needs
-  pub record Complete {os : List (List ℕ)} (g : Shape m os) : Type 0 where
+  pub record Complete {os : List (List ℕ)} (g : Loads m os) : Type 0 where
     pub enough : length (g .blocks) ≡ blocksFor (sizeOf (g .load))
     pub digest : AllowedOn R (digestOf (g .load) (g .blocks))
 
   -- these frames are not yet those of a start
-  pub not-yet : {r : List ℕ} {os : List (List ℕ)} {p : Progress} → Doing r os p → (g : Shape m os) → Complete g → ⊥
+  pub not-yet : {r : List ℕ} {os : List (List ℕ)} {p : Progress} → Doing r os p → (g : Loads m os) → Complete g → ⊥
   not-yet {os = os} (is-waiting a) g c = no-load m os a (g .opening) (g .load) (g .blocks) (g .loads) (g .order)
   not-yet {os = os} (is-loading h due t) g c =
       let u = one-shape m (h .opening) (g .opening) (h .load) (g .load) (h .blocks) (g .blocks) (h .opens) (g .opens) (h .loads) (g .loads) (sym (h .order) ∙ g .order) in
@@ -105,12 +105,12 @@ module _ (R : Reset) where
 
   pub data Acts (room uds : List ℕ) (os : List (List ℕ)) (f : List ℕ) (o : Outcome) : Type 0 where
     goes : o .report ≡ continues → (p : Progress) → o .state ≡ at idle p → Doing (o .ram) (os ++ f ∷ []) p → length (o .ram) ≡ m → Replies room f o → Acts room uds os f o
-    starts : (g : Shape m (os ++ f ∷ [])) → Complete g → BlockFrame f → Leaves (g .load) (g .blocks) (getD f 0 0) room uds o → Acts room uds os f o
-    stops : (k : ℕ) → o .report ≡ stopped k → o .state ≡ ended phase.Stopped m → ((hs : List (List ℕ)) (g : Shape m (os ++ f ∷ hs)) → Complete g → ⊥) → Acts room uds os f o
+    starts : (g : Loads m (os ++ f ∷ [])) → Complete g → BlockFrame f → Leaves (g .load) (g .blocks) (getD f 0 0) room uds o → Acts room uds os f o
+    stops : (k : ℕ) → o .report ≡ stopped k → o .state ≡ ended phase.Stopped m → ((hs : List (List ℕ)) (g : Loads m (os ++ f ∷ hs)) → Complete g → ⊥) → Acts room uds os f o
 
   module _ (room ram uds : List ℕ) (fits : length ram ≡ m) (os : List (List ℕ)) where
     -- a frame that is not one of a start, however the bytes go on
-    not-next : (f : List ℕ) → All (Opens m) os → (QueryFrame f → ⊥) → (LoadFrame f → ⊥) → (hs : List (List ℕ)) (g : Shape m (os ++ f ∷ hs)) → ⊥
+    not-next : (f : List ℕ) → All (Opens m) os → (QueryFrame f → ⊥) → (LoadFrame f → ⊥) → (hs : List (List ℕ)) (g : Loads m (os ++ f ∷ hs)) → ⊥
     not-next f a q l hs g =
         ⊎-elim (λ o. ⊎-elim q (λ b. l (b .0)) o) (λ b. l (b .0)) (next-is m os f hs a (g .opening) (g .load) (g .blocks) (g .opens) (g .loads) (g .order))
 
@@ -138,9 +138,9 @@ module _ (R : Reset) where
     acts-waiting f a e d (asks-load l) = acts-load f a l (e (l .0))
     acts-waiting f a e d (asks-neither k q l) = stops k refl refl (λ hs g c. not-next f a q l hs g)
 
-    module _ (g : Shape m os) (due : length (g .blocks) < blocksFor (sizeOf (g .load))) (held : take (127 * length (g .blocks)) ram ≡ carried (g .blocks)) (f : List ℕ)
+    module _ (g : Loads m os) (due : length (g .blocks) < blocksFor (sizeOf (g .load))) (held : take (127 * length (g .blocks)) ram ≡ carried (g .blocks)) (f : List ℕ)
         (b : BlockFrame f) where
-      abbrev pub more : Shape m (os ++ f ∷ [])
+      abbrev pub more : Loads m (os ++ f ∷ [])
       more =
           record {
             opening = g .opening;
@@ -209,7 +209,7 @@ module _ (R : Reset) where
         whole-digest = digestOf (g .load) (g .blocks ++ f ∷ [])
 
         -- where it is not allowed, no more frames make a start
-        no-other : (AllowedOn R whole-digest → ⊥) → (hs : List (List ℕ)) (h : Shape m (os ++ f ∷ hs)) → Complete h → ⊥
+        no-other : (AllowedOn R whole-digest → ⊥) → (hs : List (List ℕ)) (h : Loads m (os ++ f ∷ hs)) → Complete h → ⊥
         no-other bar hs h c =
             let u = grows m os (f ∷ hs) g h in
             let a = all-there in
@@ -246,12 +246,12 @@ module _ (R : Reset) where
           (record { is = _; reply-to = to-block b (i .header) h; reply = refl; room-after = refl })))
 
     -- a frame that is no block, once blocks are due
-    not-block : (g : Shape m os) (f : List ℕ) → (BlockFrame f → ⊥) → (hs : List (List ℕ)) (h : Shape m (os ++ f ∷ hs)) → ⊥
+    not-block : (g : Loads m os) (f : List ℕ) → (BlockFrame f → ⊥) → (hs : List (List ℕ)) (h : Loads m (os ++ f ∷ hs)) → ⊥
     not-block g f x hs h =
         let u = grows m os (f ∷ hs) g h in
         x (All-last BlockFrame (g .blocks) f hs (rw (u .1) (h .carry)))
 
-    acts-loading : (g : Shape m os) → length (g .blocks) < blocksFor (sizeOf (g .load)) → take (127 * length (g .blocks)) ram ≡ carried (g .blocks)
+    acts-loading : (g : Loads m os) → length (g .blocks) < blocksFor (sizeOf (g .load)) → take (127 * length (g .blocks)) ram ≡ carried (g .blocks)
         → (f : List ℕ) (i : Incoming) → (length (bodyOf f) ≡ 128 → i .header ∷ i .body ≡ f) → i .header ≡ getD f 0 0 → (d : Request) → AskedLoading f d
         → Acts room uds os f (performed d (at i (loadedWith (g .load) (length (g .blocks)))) room ram uds)
     acts-loading g due t f i e h d (asks-block b) = acts-block g due t f b i (e (b .0)) h

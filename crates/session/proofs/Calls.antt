@@ -16,13 +16,13 @@ use Rattle.head.specs.Act.{requestOf, performed, actRefusal, acted}
 use Rattle.head.proofs.Ranges.{never}
 use Rattle.head.proofs.Admitted.{gather-admitted-as, act-admitted, act-admitted-as}
 use Rattle.endian.specs.Lists.{All}
-use Rattle.session.specs.Reading.{Good, forFirmware, own, sizeOf, Starting}
+use Rattle.session.specs.Reading.{Good, forFirmware, own, sizeOf, Starting, Loads}
 use Rattle.session.specs.Session.{Reset, Loan}
 use Rattle.session.specs.Boot.{EndsWhole}
 use Rattle.session.proofs.Resets.{ReadsOn}
 use Rattle.session.proofs.Frames.{All-append, own-append, flatten-snoc, own-more, own-same, last-same, same-size, Further, reads-on, good-some}
 use Rattle.session.proofs.Gathering.{holding, Partial, is-part, is-whole, Gathers, at-bad, at-part, at-passed, at-whole, length-snoc, gathers}
-use Rattle.session.proofs.Shapes.{Shape, All-last}
+use Rattle.session.proofs.Shapes.{All-last}
 use Rattle.session.proofs.Acting.{empty-rest, grows, at, Doing, Complete, not-yet, Leaves, Replies, Acts, goes, starts, stops, acts}
 use Rattle.head.specs.declared.Phase.the-variants as phase
 use Rattle.head.specs.declared.Progress.{Progress}
@@ -110,8 +110,8 @@ module _ (R : Reset) where
   now-whole {f = f} v =
       ap (λ (s : State). isWhole (s .incoming)) (v .state) ∙ is-whole f (All-last Good (v .frames) f [] (v .all-good)) (v .last-own)
 
-  abbrev shape-of : {bs : List ℕ} (w : ReadsOn R bs) (os : List (List ℕ)) → os ≡ own (w .before ++ w .last ∷ []) → Shape m os
-  shape-of w os e = record { opening = w .opening; load = w .load; blocks = w .blocks; order = e ∙ w .order; opens = w .opens; loads = w .loads; carry = w .carry }
+  abbrev shape-of : {bs : List ℕ} (w : ReadsOn R bs) (os : List (List ℕ)) → os ≡ own (w .before ++ w .last ∷ []) → Loads m os
+  shape-of w os e = record { opening = w .loading .opening; load = w .loading .load; blocks = w .loading .blocks; order = e ∙ w .loading .order; opens = w .loading .opens; loads = w .loading .loads; carry = w .loading .carry }
 
   -- where the bytes end in a whole frame, these are all its frames, and no part is left
   only-frames : {os : List (List ℕ)} {bs : List ℕ} {s : State} {r : List ℕ} (v : Live os bs s r) (w : EndsWhole bs)
@@ -217,7 +217,7 @@ module _ (R : Reset) where
 
   pub data AfterAct (os : List (List ℕ)) (f bs : List ℕ) (l : Loan) (o : Outcome) : Type 0 where
     goes-on : o .report ≡ continues → Live (os ++ f ∷ []) bs (o .state) (o .ram) → length (o .ram) ≡ m → Replies R (l .room) f o → AfterAct os f bs l o
-    has-started : (w : ReadsOn R bs) → Leaves R (w .load) (w .blocks) (getD (w .last) 0 0) (l .room) (l .uds) o
+    has-started : (w : ReadsOn R bs) → Leaves R (w .loading .load) (w .loading .blocks) (getD (w .last) 0 0) (l .room) (l .uds) o
         → ((rest : List ℕ) → ReadsOn R (bs ++ rest) → rest ≡ []) → AfterAct os f bs l o
     has-stopped : (k : ℕ) → o .report ≡ stopped k → o .state ≡ ended phase.Stopped m → ((rest : List ℕ) → ReadsOn R (bs ++ rest) → ⊥) → AfterAct os f bs l o
 
@@ -237,12 +237,12 @@ module _ (R : Reset) where
       own-further =
           ap (λ (x : List (List ℕ)). x ++ own (on .rest)) (sym own-all) ∙ sym (own-append (v .frames ++ f ∷ []) (on .rest)) ∙ ap own (sym (on .frames))
 
-      last-start : (h : Shape m (os ++ f ∷ [])) → Complete R h → rest ≡ []
+      last-start : (h : Loads m (os ++ f ∷ [])) → Complete R h → rest ≡ []
       unfolding flatten
       last-start h k =
           let t = grows m (os ++ f ∷ []) (own (on .rest)) h (shape-of w _ own-further) in
-          let l : length (h .blocks) + length (own (on .rest)) ≡ length (w .blocks) = sym (length-append (h .blocks) (own (on .rest))) ∙ ap length (t .1) in
-          let s : blocksFor (sizeOf (h .load)) ≡ blocksFor (sizeOf (w .load)) = ap (λ (x : List ℕ). blocksFor (sizeOf x)) (t .0) in
+          let l : length (h .blocks) + length (own (on .rest)) ≡ length (w .loading .blocks) = sym (length-append (h .blocks) (own (on .rest))) ∙ ap length (t .1) in
+          let s : blocksFor (sizeOf (h .load)) ≡ blocksFor (sizeOf (w .loading .load)) = ap (λ (x : List ℕ). blocksFor (sizeOf x)) (t .0) in
           let n : own (on .rest) ≡ [] = empty-rest (own (on .rest)) (omega (arith, k .enough, w .enough)) in
           on .bytes ∙ ap flatten (none-after (v .frames ++ f ∷ []) (on .rest) (w .before) (w .last) (on .frames) (w .last-own) n)
 
@@ -269,13 +269,16 @@ module _ (R : Reset) where
           nothing-left = v .whole;
           last-own = v .last-own;
           last-block = b;
-          opening = h .opening;
-          load = h .load;
-          blocks = h .blocks;
-          order = own-all ∙ h .order;
-          opens = h .opens;
-          loads = h .loads;
-          carry = h .carry;
+          loading =
+              record {
+                opening = h .opening;
+                load = h .load;
+                blocks = h .blocks;
+                order = own-all ∙ h .order;
+                opens = h .opens;
+                loads = h .loads;
+                carry = h .carry;
+              };
           enough = k .enough;
           allowed = k .digest;
         }) n (λ rest w. last-start rest w h k)

@@ -146,7 +146,7 @@ module _ (prog : List ℕ) (id : ℕ) (secret : Secret) (makes : Made prog id se
 
     -- the reply of a start
     start-replied : (k : ℕ) → k ≡ blocksFor n → (bs : List ℕ) (l : Loan) (o : Outcome) → bs ≡ flatten (framesTo prog id secret (suc k))
-        → (w : ReadsOn R bs) → Leaves R (w .load) (w .blocks) (getD (w .last) 0 0) (l .room) (l .uds) o → Replied prog id secret k bs o
+        → (w : ReadsOn R bs) → Leaves R (w .loading .load) (w .loading .blocks) (getD (w .last) 0 0) (l .room) (l .uds) o → Replied prog id secret k bs o
     unfolding reading
     start-replied k ek bs l o e w x =
         let all : bs ≡ flatten (frames prog id secret) = e ∙ ap (λ (i : ℕ). flatten (framesTo prog id secret (suc i))) ek in
@@ -154,10 +154,10 @@ module _ (prog : List ℕ) (id : ℕ) (secret : Secret) (makes : Made prog id se
         let one = one-reading R bs w ours in
         let h : getD (w .last) 0 0 ≡ commandHeader id =
         ap (λ (f : List ℕ). getD f 0 0) (one-last R bs w ours) ∙ made.reading-last prog id secret makes R fits allows _ all in
-        let d : digestOf (w .load) (w .blocks) ≡ programDigest prog id secret =
-        ap (λ (f : List ℕ). digestOf f (w .blocks)) (one .1) ∙ ap (λ (f : List (List ℕ)). digestOf (ours .load) f) (one .2)
+        let d : digestOf (w .loading .load) (w .loading .blocks) ≡ programDigest prog id secret =
+        ap (λ (f : List ℕ). digestOf f (w .loading .blocks)) (one .1) ∙ ap (λ (f : List (List ℕ)). digestOf (ours .loading .load) f) (one .2)
         ∙ ap (λ (x : List ℕ). blake2s [] x 32) (made.reading-program prog id secret makes R fits allows _ all) in
-        last-replied k ek bs (l .room) o e (getD (w .last) 0 0) (digestOf (w .load) (w .blocks)) h d (x .reply) (x .room-after)
+        last-replied k ek bs (l .room) o e (getD (w .last) 0 0) (digestOf (w .loading .load) (w .loading .blocks)) h d (x .reply) (x .room-after)
 
     -- calls after k actings, where bs was gathered and the frames go on
     abbrev Traced : List Call → Type 0
@@ -223,7 +223,7 @@ module _ (prog : List ℕ) (id : ℕ) (secret : Secret) (makes : Made prog id se
             let c : suc (blocksFor n) ≡ suc k = y .last (d (gatheredBytes later) (reading _ e)) in
             let h : k ≡ blocksFor n = omega arith in
             subst (λ (es : List Entry). LoadTrace prog id secret k bs (acts l o ∷ es)) (sym (nothing-started (o .state) (length (R .ram)) cs (p .state)) ∙ x .1)
-            (ends k bs l o 0x40000000 (sizeOf (w .load)) (p .report) h (start-replied k h bs l o (y .so-far) w p))
+            (ends k bs l o 0x40000000 (sizeOf (w .loading .load)) (p .report) h (start-replied k h bs l o (y .so-far) w p))
         after f y (has-stopped j q p d) = absurd (d (gatheredBytes later) (reading _ e))
 
     load-trace : (cs : List Call) → Traced cs
@@ -262,11 +262,11 @@ module _ (prog : List ℕ) (id : ℕ) (secret : Secret) (makes : Made prog id se
         }
 
     -- the load of the reading, and its program
-    load-is : loadIn (start .reading .load) ≡ loadWith n (cond (secret .used) 1 0) (cond (secret .used) (secret .uss) (replicate 32 0))
+    load-is : loadIn (start .reading .loading .load) ≡ loadWith n (cond (secret .used) 1 0) (cond (secret .used) (secret .uss) (replicate 32 0))
     unfolding reading
     load-is = made.reading-load prog id secret makes (S .reset) (received .fits) (received .allowed) (gatheredBytes (acceptedOf S)) all-received
 
-    program-is : programOf (start .reading .load) (start .reading .blocks) ≡ prog
+    program-is : programOf (start .reading .loading .load) (start .reading .loading .blocks) ≡ prog
     unfolding reading
     program-is = made.reading-program prog id secret makes (S .reset) (received .fits) (received .allowed) (gatheredBytes (acceptedOf S)) all-received
 
@@ -299,7 +299,7 @@ module _ (prog : List ℕ) (id : ℕ) (secret : Secret) (makes : Made prog id se
         measured = measuredId (S .reset .rec)
 
         load : Load
-        load = loadIn (start .reading .load)
+        load = loadIn (start .reading .loading .load)
 
 pub client-load : ClientLoad
 client-load =

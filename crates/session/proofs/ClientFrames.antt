@@ -290,24 +290,27 @@ module _ (prog : List ℕ) (id : ℕ) (secret : Secret) (made : Made prog id sec
           nothing-left = e ∙ ap flatten all-frames;
           last-own = is-own;
           last-block = is-block last-number;
-          opening = [];
-          load = frame prog id secret 0;
-          blocks = blocks-to (suc last-number);
-          order = rw is-own (ap (λ (x : List (List ℕ)). frame prog id secret 0 ∷ x) (blocks-own (suc last-number)));
-          opens = tt;
-          loads = load-good (length (R .ram)) fits;
-          carry = blocks-are (suc last-number);
+          loading =
+              record {
+                opening = [];
+                load = frame prog id secret 0;
+                blocks = blocks-to (suc last-number);
+                order = rw is-own (ap (λ (x : List (List ℕ)). frame prog id secret 0 ∷ x) (blocks-own (suc last-number)));
+                opens = tt;
+                loads = load-good (length (R .ram)) fits;
+                carry = blocks-are (suc last-number);
+              };
           enough = blocks-count (suc last-number) ∙ sym (ap (λ (l : Load). blocksFor (l .size)) load-is ∙ needed);
           allowed = subst (AllowedOn R) (ap (λ (x : List ℕ). blake2s [] x 32) (sym same-program)) allows;
         }
 
     -- its program and its load
-    pub reading-program : (received : List ℕ) (e : received ≡ flatten (frames prog id secret)) → programOf (reading received e .load) (reading received e .blocks) ≡ prog
+    pub reading-program : (received : List ℕ) (e : received ≡ flatten (frames prog id secret)) → programOf (reading received e .loading .load) (reading received e .loading .blocks) ≡ prog
     unfolding reading
     reading-program received e = same-program
 
     pub reading-load : (received : List ℕ) (e : received ≡ flatten (frames prog id secret))
-        → loadIn (reading received e .load) ≡ loadWith (length prog) (cond (secret .used) 1 0) (cond (secret .used) (secret .uss) (replicate 32 0))
+        → loadIn (reading received e .loading .load) ≡ loadWith (length prog) (cond (secret .used) 1 0) (cond (secret .used) (secret .uss) (replicate 32 0))
     unfolding reading
     reading-load received e = load-is
 

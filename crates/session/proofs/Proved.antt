@@ -47,17 +47,17 @@ module _ (R : Reset) (received : List ℕ) (w w′ : ReadsOn R received) where
       let u = reads-on (w′ .before ++ w′ .last ∷ []) (w .before ++ w .last ∷ []) [] (w′ .all-good) (w .all-good) (append-nil _ ∙ sym (w′ .nothing-left) ∙ w .nothing-left) in
       u .frames ∙ ap (λ (x : List (List ℕ)). (w′ .before ++ w′ .last ∷ []) ++ x) (no-frames (u .rest) (u .all-good) (u .bytes)) ∙ append-nil _
 
-  pub one-reading : (w .opening ≡ w′ .opening) × (w .load ≡ w′ .load) × (w .blocks ≡ w′ .blocks)
+  pub one-reading : (w .loading .opening ≡ w′ .loading .opening) × (w .loading .load ≡ w′ .loading .load) × (w .loading .blocks ≡ w′ .loading .blocks)
   one-reading =
-      one-shape (length (R .ram)) (w .opening) (w′ .opening) (w .load) (w′ .load) (w .blocks) (w′ .blocks) (w .opens) (w′ .opens) (w .loads) (w′ .loads)
-      (sym (w .order) ∙ ap own same-frames ∙ w′ .order)
+      one-shape (length (R .ram)) (w .loading .opening) (w′ .loading .opening) (w .loading .load) (w′ .loading .load) (w .loading .blocks) (w′ .loading .blocks) (w .loading .opens) (w′ .loading .opens) (w .loading .loads) (w′ .loading .loads)
+      (sym (w .loading .order) ∙ ap own same-frames ∙ w′ .loading .order)
 
   pub one-last : w .last ≡ w′ .last
   one-last = last-same (w .before) (w′ .before) (w .last) (w′ .last) same-frames
 
   -- what a start is made from is fixed by the load and the blocks
   one-basis : (uds : List ℕ) → carriedBasis w uds ≡ carriedBasis w′ uds
-  one-basis uds = go (w .load) (w′ .load) (w .blocks) (w′ .blocks) (one-reading .1) (one-reading .2)
+  one-basis uds = go (w .loading .load) (w′ .loading .load) (w .loading .blocks) (w′ .loading .blocks) (one-reading .1) (one-reading .2)
     where
       made-from : List ℕ → List (List ℕ) → Basis
       made-from l b = record { rec = R .rec; uds = uds; program = programOf l b; used = usesUss (loadIn l); uss = loadIn l .uss }
@@ -110,14 +110,14 @@ module _ (S : Session) where
   whole-when b g i = wholes-at [] (i .before) (i .after) b g (subst (Wholes []) (i .place) (walked .wholes))
 
   module _ (t : Start S) where
-    leaves : Leaves (S .reset) (t .reading .load) (t .reading .blocks) (getD (t .reading .last) 0 0) (t .loan .room) (t .loan .uds) (t .out)
+    leaves : Leaves (S .reset) (t .reading .loading .load) (t .reading .loading .blocks) (getD (t .reading .last) 0 0) (t .loan .room) (t .loan .uds) (t .out)
     leaves =
         let b = start-read (t .loan) (t .out) (t .started-at) .0 in
         let o = one-reading (S .reset) (gatheredBytes (acceptedOf S)) (b .reading) (t .reading) in
         let l = one-last (S .reset) (gatheredBytes (acceptedOf S)) (b .reading) (t .reading) in
-        subst (λ (f : List ℕ). Leaves (S .reset) (t .reading .load) (t .reading .blocks) (getD f 0 0) (t .loan .room) (t .loan .uds) (t .out)) l
-        (subst (λ (f : List (List ℕ)). Leaves (S .reset) (t .reading .load) f (getD (b .reading .last) 0 0) (t .loan .room) (t .loan .uds) (t .out)) (o .2)
-        (subst (λ (f : List ℕ). Leaves (S .reset) f (b .reading .blocks) (getD (b .reading .last) 0 0) (t .loan .room) (t .loan .uds) (t .out)) (o .1)
+        subst (λ (f : List ℕ). Leaves (S .reset) (t .reading .loading .load) (t .reading .loading .blocks) (getD f 0 0) (t .loan .room) (t .loan .uds) (t .out)) l
+        (subst (λ (f : List (List ℕ)). Leaves (S .reset) (t .reading .loading .load) f (getD (b .reading .last) 0 0) (t .loan .room) (t .loan .uds) (t .out)) (o .2)
+        (subst (λ (f : List ℕ). Leaves (S .reset) f (b .reading .loading .blocks) (getD (b .reading .last) 0 0) (t .loan .room) (t .loan .uds) (t .out)) (o .1)
         (b .leaves)))
 
     carried-sound : Sound (basisOf t)
@@ -126,14 +126,14 @@ module _ (S : Session) where
           eight = start-read (t .loan) (t .out) (t .started-at) .0 .eight;
           typed = t .loan .words;
           size = begins .lent .record-length;
-          secret = λ e. uss-length (t .reading .load) (t .reading .loads .0);
+          secret = λ e. uss-length (t .reading .loading .load) (t .reading .loading .loads .0);
         }
 
     pub gives : Gives t
     gives =
         let l = leaves in
         let a = t .started-at .among in
-        let n = program-length (t .reading .load) (t .reading .blocks) (t .reading .carry) (t .reading .enough) in
+        let n = program-length (t .reading .loading .load) (t .reading .loading .blocks) (t .reading .loading .carry) (t .reading .enough) in
         record {
           start =
               record {
@@ -217,7 +217,7 @@ module _ (R : Reset) (ram uds prog : List ℕ) (id : ℕ) (secret : Secret) (mak
         same-ram = refl;
         same-uds = sent-accepted .same-uds (t .0) (t .1) (subst (Among (acts (t .0) (t .1))) (sent-accepted .none-refused) (t .2 .among));
         same-program = made.reading-program prog id secret makes R fits-reset allows received all-received;
-        same-secret = secret-of (loadIn (reading .load)) (secret .used) (made.reading-load prog id secret makes R fits-reset allows received all-received);
+        same-secret = secret-of (loadIn (reading .loading .load)) (secret .used) (made.reading-load prog id secret makes R fits-reset allows received all-received);
         none-refused = sent-accepted .none-refused;
       }
 

@@ -77,15 +77,6 @@ module _ (m : ℕ) where
   not-both f (inl q) g = let a : length (bodyOf f) ≡ 1 = q .0 in let b : length (bodyOf f) ≡ 128 = g .0 .0 in omega arith
   not-both f (inr l) g = never (sym (g .1) ∙ l .1)
 
-  pub record Shape (os : List (List ℕ)) : Type 0 where
-    pub opening : List (List ℕ)
-    pub load : List ℕ
-    pub blocks : List (List ℕ)
-    pub order : os ≡ opening ++ load ∷ blocks
-    pub opens : All (Opens m) opening
-    pub loads : GoodLoad m load
-    pub carry : All BlockFrame blocks
-
   -- two readings of the same frames
   pub one-shape : (xs ys : List (List ℕ)) (l k : List ℕ) (bs cs : List (List ℕ)) → All (Opens m) xs → All (Opens m) ys → GoodLoad m l → GoodLoad m k
       → xs ++ l ∷ bs ≡ ys ++ k ∷ cs → (xs ≡ ys) × (l ≡ k) × (bs ≡ cs)

@@ -67,7 +67,7 @@ module _ (R : Reset) where
   -- the start that an acting answered, where these are the accepted bytes
   pub record StartRead (bs : List ℕ) (l : Loan) (o : Outcome) : Type 0 where
     pub reading : ReadsOn R bs
-    pub leaves : Leaves R (reading .load) (reading .blocks) (getD (reading .last) 0 0) (l .room) (l .uds) o
+    pub leaves : Leaves R (reading .loading .load) (reading .loading .blocks) (getD (reading .last) 0 0) (l .room) (l .uds) o
     pub eight : length (l .uds) ≡ 8
 
   pub record Walk (acting : Bool) (bs : List ℕ) (es : List Entry) : Type 0 where

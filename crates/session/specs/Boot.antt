@@ -96,9 +96,9 @@ carriedBasis {rec = rec} w uds =
     record {
       rec = rec;
       uds = uds;
-      program = programOf (w .load) (w .blocks);
-      used = usesUss (loadIn (w .load));
-      uss = loadIn (w .load) .uss;
+      program = programOf (w .loading .load) (w .loading .blocks);
+      used = usesUss (loadIn (w .loading .load));
+      uss = loadIn (w .loading .load) .uss;
     }
 
 pub record Start (S : Session) : Type 0 where
@@ -114,7 +114,7 @@ basisOf t = carriedBasis (t .reading) (t .loan .uds)
 pub record Gives {S : Session} (t : Start S) : Type 0 where
   pub start : GivesStart (basisOf t) (unreplied (t .out))
   -- the program has the size that the load gave
-  pub size : length (basisOf t .program) ≡ sizeOf (t .reading .load)
+  pub size : length (basisOf t .program) ≡ sizeOf (t .reading .loading .load)
   -- the reply to the last block, and no other byte of the room
   pub reply : t .out .reply ≡ 129
   pub room : t .out .room ≡ putIn (t .loan .room) (sent (digestReply (getD (t .reading .last) 0 0) (digest (basisOf t))))
@@ -215,7 +215,7 @@ pub record VerifiedBoot : Type 0 where
   pub exactly : (S : Session) → Started S ↔ (Reads S × ActedOn S)
   -- every start gives what it should, and the reading of its bytes is one
   pub gives : (S : Session) (t : Start S) → Gives t
-  pub one-reading : (S : Session) (w w′ : Reads S) → (w .opening ≡ w′ .opening) × (w .load ≡ w′ .load) × (w .blocks ≡ w′ .blocks)
+  pub one-reading : (S : Session) (w w′ : Reads S) → (w .loading .opening ≡ w′ .loading .opening) × (w .loading .load ≡ w′ .loading .load) × (w .loading .blocks ≡ w′ .loading .blocks)
       × ((uds : List ℕ) → carriedBasis w uds ≡ carriedBasis w′ uds)
   -- begin is accepted exactly when none of its refusals applies, and a session begins exactly when a client program is then asked for
   pub begin-accepted : (R : Reset) → (isAccepted (begun R .report) ≡ true) ↔ Admitted R

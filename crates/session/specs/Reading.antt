@@ -88,6 +88,20 @@ chained rec = resetSeed (numberIn maskField rec)
 abbrev pub measuredId : List ℕ → List ℕ
 measuredId rec = fieldOf measuredIdField rec
 
+-- frames with endpoint 2: queries and bad loads in any order and number, one good load, then blocks
+pub record Loads (m : ℕ) (os : List (List ℕ)) : Type 0 where
+  pub opening : List (List ℕ)
+  pub load : List ℕ
+  pub blocks : List (List ℕ)
+  pub order : os ≡ opening ++ load ∷ blocks
+  pub opens : All (Opens m) opening
+  pub loads : GoodLoad m load
+  pub carry : All BlockFrame blocks
+
+-- how many blocks the program needs: ceil(n / 127)
+abbrev pub needed : {m : ℕ} {os : List (List ℕ)} → Loads m os → ℕ
+needed l = blocksFor (sizeOf (l .load))
+
 -- the accepted bytes of a session that has started, for the record, the built-in digest and the RAM's length at begin
 pub record Starting (rec builtIn : List ℕ) (m : ℕ) (received : List ℕ) : Type 0 where
   -- whole good frames one after the other, with nothing left over, and the last is a block
@@ -97,15 +111,8 @@ pub record Starting (rec builtIn : List ℕ) (m : ℕ) (received : List ℕ) : T
   pub nothing-left : received ≡ flatten (before ++ last ∷ [])
   pub last-own : forFirmware last ≡ true
   pub last-block : BlockFrame last
-  -- of those with endpoint 2: queries and bad loads in any order and number, one good load, then blocks
-  pub opening : List (List ℕ)
-  pub load : List ℕ
-  pub blocks : List (List ℕ)
-  pub order : own (before ++ last ∷ []) ≡ opening ++ load ∷ blocks
-  pub opens : All (Opens m) opening
-  pub loads : GoodLoad m load
-  pub carry : All BlockFrame blocks
-  -- n needs ceil(n / 127) of them
-  pub enough : length blocks ≡ blocksFor (sizeOf load)
+  -- those with endpoint 2 load, and all blocks have come
+  pub loading : Loads m (own (before ++ last ∷ []))
+  pub enough : length (loading .blocks) ≡ needed loading
   -- where a digest is required, the first n bytes carried have it
-  pub allowed : Allowed rec builtIn (digestOf load blocks)
+  pub allowed : Allowed rec builtIn (digestOf (loading .load) (loading .blocks))
