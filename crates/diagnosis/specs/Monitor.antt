@@ -41,7 +41,7 @@ nowhere = record { byte = 0; frame = 0; offset = 0 }
 abbrev pub freshHash : Context
 freshHash = beginContext [] 32
 
--- a monitor that hears nothing, and one that waits for a load
+-- a monitor that hears nothing, in the state of a head whose begin was refused, and one that waits for a load
 unfoldable pub closed : Verdict → Monitor
 closed v = record { head = ended phase.Stopped 1; hash = freshHash; position = nowhere; verdict = v; digest = zeros 32 }
 
@@ -156,7 +156,7 @@ unfoldable pub heard : Monitor → List ℕ → Monitor
 heard w [] = w
 heard w (b ∷ bs) = heard (heardByte w b) bs
 
--- the counts of bytes and frames have 64 bits
+-- the counts of bytes and frames have 64 bits, and each byte may add one to both
 abbrev pub countsTo : Position → ℕ → Bool
 countsTo p n = ltb (p .byte + n) (2 ^ 64) && ltb (p .frame + n) (2 ^ 64)
 
@@ -164,8 +164,8 @@ unfoldable pub hasRoom : Monitor → ℕ → Bool
 hasRoom w n = countsTo (w .position) n
 
 -- a part that is not taken changes nothing
-unfoldable pub hearing : Monitor → List ℕ → Heard
-hearing w part =
+unfoldable pub heardPart : Monitor → List ℕ → Heard
+heardPart w part =
     let t = hasRoom w (length part) in
     record { taken = t; monitor = cond t (heard w part) w }
 
@@ -178,11 +178,11 @@ byPhase phase.Loading p = reason.missing (blocksFor (p .size) - p .block)
 byPhase phase.Started p = reason.waiting
 byPhase phase.Stopped p = reason.waiting
 
-abbrev pub goingOn : State → Reason
-goingOn s = cond (eqb (s .incoming .got) 0) (byPhase (s .progress .phase) (s .progress)) reason.unfinished
+abbrev pub openReason : State → Reason
+openReason s = cond (eqb (s .incoming .got) 0) (byPhase (s .progress .phase) (s .progress)) reason.unfinished
 
 abbrev pub byVerdict : Verdict → State → ℕ → Reason
-byVerdict Open s i = goingOn s
+byVerdict Open s i = openReason s
 byVerdict (Refused r) s i = reason.refused (refusalNumber r)
 byVerdict (Stopped k) s i = reason.stopped (stopNumber k) i
 byVerdict Started s i = reason.started

@@ -24,7 +24,7 @@ pub data Reason : Type 0 where
   unfinished : Reason
   -- no good load has come
   waiting : Reason
-  -- so many blocks have not
+  -- the load has come, and so many of its blocks have not
   missing : ℕ → Reason
   started : Reason
 

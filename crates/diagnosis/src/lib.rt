@@ -57,7 +57,7 @@ pub struct Monitor {
     pub digest: [u8; 32],
 }
 
-// A monitor that was told a part. It is not taken, and nothing changed, where more than 2^64 - 1 bytes would have been heard in all.
+// A monitor that was told a part. It is not taken, and nothing changed, where a count and the part's length come to 2^64.
 pub struct Heard {
     pub taken: bool,
     pub monitor: Monitor,
@@ -71,7 +71,7 @@ pub enum Finding {
     Unfinished,
     // No good load has come.
     Waiting,
-    // How many blocks of the program have not.
+    // A load has come, and so many of its blocks have not.
     Missing(u64),
     Started,
 }

@@ -5,7 +5,7 @@ ghost use Prim.Native.Nat.{ℕ, _+_, _-_, _<_, _^_};
 ghost use Rattle.protocol.specs.Commands.{blocksFor};
 ghost use lib.ListN.{length};
 ghost use Rattle.diagnosis.specs.Reasons.{reasonOf};
-ghost use Rattle.diagnosis.specs.Monitor.{isOpen, positionAfter, moved, heardByte, countsTo, hasRoom, heard, hearing, goingOn};
+ghost use Rattle.diagnosis.specs.Monitor.{isOpen, positionAfter, moved, heardByte, countsTo, hasRoom, heard, heardPart, openReason};
 use super::Finding;
 use super::Heard;
 use super::Monitor;
@@ -17,7 +17,7 @@ use head::Phase;
 use head::State;
 use head::Stop;
 
-pub fn is_open(v: Verdict) -> bool
+fn is_open(v: Verdict) -> bool
     ensures { λ r. ⌜ r ≡ isOpen v ⌝ }
 {
     match v {
@@ -122,7 +122,7 @@ fn has_room(p: Position, n: usize) -> bool
 
 // Tells a monitor the next part of the bytes.
 pub fn hear(w: Monitor, part: &[u8]) -> Heard
-    ensures { λ r. ⌜ r ≡ hearing w (now (part .entry)) ⌝ }
+    ensures { λ r. ⌜ r ≡ heardPart w (now (part .entry)) ⌝ }
 {
     let p = w.position;
     if !has_room(p, part.len()) {
@@ -151,7 +151,7 @@ fn missing(size: u32, block: u32) -> u64
 
 // What is found where the head goes on: an unfinished frame comes first.
 pub fn going_on(w: Monitor) -> Finding
-    ensures { λ r. ⌜ ((i : ℕ) → reasonOf r i ≡ goingOn (w .head)) ⌝ }
+    ensures { λ r. ⌜ ((i : ℕ) → reasonOf r i ≡ openReason (w .head)) ⌝ }
 {
     let s = w.head;
     if s.incoming.got != 0 {

@@ -36,7 +36,7 @@ use Rattle.session.proofs.Frames.{All-append, good-some}
 use Rattle.session.proofs.Gathering.{holding}
 use Rattle.session.proofs.Shapes.{one-shape, no-load, carried-snoc, carries-127, carried-length, load-size}
 use Rattle.session.proofs.Acting.{grows, at, loadedWith, Doing, is-waiting, is-loading, more, program-in, all-there, held-frame, held-body}
-use Rattle.diagnosis.specs.Monitor.{freshHash, onward, loadHeard, measured, blockHeard, frameHeard, byReport, isOpen, heardByte}
+use Rattle.diagnosis.specs.Monitor.{freshHash, onward, loadHeard, measured, blockHeard, frameHeard, byReport, isOpen, heardByte, nowhere}
 use Rattle.diagnosis.specs.declared.Verdict.{Verdict}
 use Rattle.diagnosis.specs.declared.Verdict.the-variants.{Open, Stopped, Started}
 use Rattle.diagnosis.specs.declared.Position.{Position}
@@ -52,6 +52,7 @@ pub record Placed (bs : List ℕ) (q : Position) : Type 0 where
   pub count : q .byte ≡ length bs
   pub frames : (fs : List (List ℕ)) (p : List ℕ) → Reads bs fs p → q .frame ≡ begun fs p
   pub stands : (more : List ℕ) → 1 ≤ q .byte → Stands (bs ++ more) (q .byte) (q .frame) (q .offset)
+  pub before-any : q .byte ≡ 0 → q ≡ nowhere
 
 module _ (R : Reset) where
   abbrev m : ℕ
@@ -67,6 +68,7 @@ module _ (R : Reset) where
     pub head : w .head ≡ seen s
     pub hash : (g : Loads m os) → w .hash ≡ hashed (carried (g .blocks))
     pub placed : Placed bs (w .position)
+    pub blank : w .digest ≡ zeros 32
 
   -- ---- a byte
 
@@ -108,7 +110,7 @@ module _ (R : Reset) where
     why-length : (Waits m os × OtherLength TakenWaiting f) ⊎ (Misses m os × OtherLength BlockFrame f) → Why os f w BodyLength
     why-digest : (x : Weighs os f w) → (AllowedOn R (digestOf (x .load .load) (x .load .blocks)) → ⊥) → Why os f w Digest
 
-  -- what acting on f and hearing it lead to
+  -- what acting on f and heardPart it lead to
   pub data Agrees (os : List (List ℕ)) (f : List ℕ) (o : Outcome) (w : Monitor) : Type 0 where
     both-go : o .report ≡ continues → w .verdict ≡ Open → w .head ≡ seen (o .state)
         → ((g : Loads m (os ++ f ∷ [])) → w .hash ≡ hashed (carried (g .blocks))) → Agrees os f o w

@@ -5,7 +5,7 @@ use mathlib.Core.Logic.{_↔_, inl, inr, ⊎-elim}
 use mathlib.Core.Bool.{true, false}
 use mathlib.Core.List.{List, [], _∷_, _++_, append-assoc, append-nil, flatten}
 use native.Mathlib.Omega.{arith}
-use lib.ListN.{length, take, length-append, length-replicate}
+use lib.ListN.{length, take, drop, take-append-drop, length-append, length-replicate}
 use lib.Seq.{take-append-seam}
 use borrow.Author.Tests.{lt-ltb}
 use Rattle.endian.specs.Lists.{zeros, All, Words}
@@ -25,7 +25,7 @@ use Rattle.protocol.specs.Commands.{blocksFor}
 use Rattle.head.proofs.Ranges.{never}
 use Rattle.head.specs.declared.State.{State}
 use Rattle.diagnosis.specs.Reasons.{Reason, refused, stopped, unfinished, waiting, missing, started}
-use Rattle.diagnosis.specs.Monitor.{closed, opened, heard, hasRoom, hearing, explained, diagnosis, isOpen}
+use Rattle.diagnosis.specs.Monitor.{closed, opened, heard, hasRoom, heardPart, explained, diagnosis, isOpen}
 use Rattle.diagnosis.specs.Monitor as monitor
 use Rattle.diagnosis.specs.declared.Position.{Position}
 use Rattle.diagnosis.specs.declared.Monitor.{Monitor}
@@ -35,7 +35,7 @@ use Rattle.diagnosis.specs.declared.Verdict.the-variants.{Refused, Stopped}
 use Rattle.diagnosis.specs.declared.Refusal.the-variants.{RecordLength, RamSize, FromFlash}
 use Rattle.head.specs.declared.Stop.the-variants.{UnknownType}
 use Rattle.reasons.specs.Meaning.{LengthsOk, FrameAt, BadHeader, Holds, record-length, ram-size, from-flash, unknown-type, bad-header, bad-command, bad-length, bad-digest, is-unfinished, is-waiting, is-missing, has-started}
-use Rattle.reasons.specs.Theorems.{reasonFor, goesOn, Stands, isMeasured, Hears, endsOf, endIn, Hearing, Diagnoses}
+use Rattle.reasons.specs.Theorems.{reasonFor, goesOn, Stands, isMeasured, Hears, endsOf, endIn, SessionHearing, Diagnoses}
 use Rattle.reasons.proofs.Next.{Onward, compare}
 use Rattle.reasons.proofs.Closing.{loads-as}
 use Rattle.reasons.proofs.Exclusive.{one-reason}
@@ -43,7 +43,7 @@ use Rattle.reasons.proofs.Places.{one-count}
 use Rattle.reasons.proofs.Following.{seen, Follows}
 use Rattle.reasons.proofs.Monitors.{reasonIn, by-begun, heard-both, heard-after, heard-counts, open-goes, no-earlier}
 use Rattle.reasons.proofs.Monitors as monitors
-use Rattle.reasons.proofs.Ends.{Measured}
+use Rattle.reasons.proofs.Ends.{Claims}
 use Rattle.reasons.proofs.Walks.{Tells, walk}
 use Rattle.reasons.proofs.Examples.{comes-up}
 use Rattle.reasons.proofs.Existing.{Heard, hears-all}
@@ -52,13 +52,6 @@ use Rattle.reasons.proofs.Existing.{Heard, hears-all}
 told : (rec : List ℕ) (m : ℕ) (bytes : List ℕ) → reasonFor rec m bytes ≡ reasonIn (heard (monitor.begun rec m) bytes)
 unfolding diagnosis explained
 told rec m bytes = refl
-
--- what is claimed of a monitor that has heard these bytes
-record Claims (rec : List ℕ) (m : ℕ) (bytes : List ℕ) (w : Monitor) : Type 0 where
-  holds : Holds rec m bytes (reasonIn w)
-  stands : 1 ≤ w .position .byte → Stands bytes (w .position .byte) (w .position .frame) (w .position .offset)
-  measured : isMeasured (reasonIn w) ≡ true → Measured m bytes w
-  start-byte : reasonIn w ≡ started → Starting rec [] m (take (w .position .byte) bytes)
 
 -- a verdict that comes before any byte
 closed-heard : (v : Verdict) (bytes : List ℕ) → isOpen v ≡ false → heard (closed v) bytes ≡ closed v
@@ -97,7 +90,9 @@ module _ (R : Reset) (lent : Admitted R) (client : AsksClient R) where
               count = refl;
               frames = λ fs p x. one-count [] [] fs [] p (record { reads = refl; all-good = tt; partial = tt }) x;
               stands = λ more n. absurd (omega arith);
+              before-any = λ n. refl;
             };
+        blank = refl;
       }
 
   -- what the monitor tells of a session that hears these bytes, whatever the RAM of its first acting holds
@@ -120,7 +115,7 @@ module _ (R : Reset) (lent : Admitted R) (client : AsksClient R) where
         let f = fresh R (begin-accepted R .1 lent) client in
         hears-all uds typed R eight bytes [] [] (begun R .state) ram (first-live R ram f) (first-runs R f) same
 
-    pub exists : Hearing R ram bytes
+    pub exists : SessionHearing R ram bytes
     exists =
         record {
           session =
@@ -138,9 +133,7 @@ module _ (R : Reset) (lent : Admitted R) (client : AsksClient R) where
         }
 
     claims-heard : Claims (R .rec) m bytes (heard first bytes)
-    claims-heard =
-        let t = tells ram (callsFor uds typed bytes (begun R .state) ram) bytes (heard-by .hears) (heard-by .one-ram) in
-        record { holds = t .holds; stands = t .stands; measured = t .measured; start-byte = t .start-byte }
+    claims-heard = tells ram (callsFor uds typed bytes (begun R .state) ram) bytes (heard-by .hears) (heard-by .one-ram) .claims
 
 -- ---- the reason holds
 
@@ -176,7 +169,15 @@ early : (rec : List ℕ) (m : ℕ) (bytes : List ℕ) (v : Verdict) → isOpen v
 unfolding closed
 early rec m bytes v e h n =
     subst (Claims rec m bytes) (sym (closed-heard v bytes e))
-    (record { holds = h; stands = λ l. absurd (omega arith); measured = λ t. never (sym t ∙ n); start-byte = λ q. never (sym (ap isMeasured q) ∙ n) })
+    (record {
+      holds = h;
+      all-read = λ g. never (sym g ∙ open-goes (closed v) ∙ e);
+      before-any = λ z. refl;
+      stands = λ l. absurd (omega arith);
+      measured = λ t. never (sym t ∙ n);
+      unmeasured = λ t. refl;
+      start-byte = λ q. never (sym (ap isMeasured q) ∙ n);
+    })
 
 claims : (rec : List ℕ) (m : ℕ) (bytes : List ℕ) → Claims rec m bytes (heard (monitor.begun rec m) bytes)
 unfolding closed
@@ -275,6 +276,20 @@ first-end rec m bytes j l =
     let w = monitor.begun rec m in
     open-goes (heard w (take j bytes)) ∙ no-earlier w bytes (ap (λ (q : Position). q .byte) (begun-nowhere rec m)) j l
 
+all-read : (rec : List ℕ) (m : ℕ) (bytes : List ℕ) → goesOn (reasonFor rec m bytes) ≡ true → diagnosis rec m bytes .byte ≡ length bytes
+unfolding diagnosis explained
+all-read rec m bytes e = claims rec m bytes .all-read e
+
+before-any : (rec : List ℕ) (m : ℕ) (bytes : List ℕ) → let d = diagnosis rec m bytes in d .byte ≡ 0 → (d .frame ≡ 0) × (d .offset ≡ 0)
+unfolding diagnosis explained
+before-any rec m bytes e =
+    let n = claims rec m bytes .before-any e in
+    (ap (λ (q : Position). q .frame) n, ap (λ (q : Position). q .offset) n)
+
+unmeasured : (rec : List ℕ) (m : ℕ) (bytes : List ℕ) → isMeasured (reasonFor rec m bytes) ≡ false → diagnosis rec m bytes .digest ≡ zeros 32
+unfolding diagnosis explained
+unmeasured rec m bytes e = claims rec m bytes .unmeasured e
+
 later : (rec : List ℕ) (m : ℕ) (bytes more : List ℕ) → goesOn (reasonFor rec m bytes) ≡ false → diagnosis rec m (bytes ++ more) ≡ diagnosis rec m bytes
 unfolding diagnosis
 later rec m bytes more e =
@@ -339,12 +354,21 @@ module _ (rec : List ℕ) (m : ℕ) (bytes more : List ℕ) where
   holds-up-to i r (is-missing a n x) g e t = never g
   holds-up-to i r (has-started a x) g e t = has-started a (record { received = take i bytes; rest = more; reads = refl; starting = t refl })
 
-rest : (rec : List ℕ) (m : ℕ) (bytes others : List ℕ) → goesOn (reasonFor rec m bytes) ≡ false
+same-reason : (rec : List ℕ) (m : ℕ) (bytes others : List ℕ) → goesOn (reasonFor rec m bytes) ≡ false
     → reasonFor rec m (take (diagnosis rec m bytes .byte) bytes ++ others) ≡ reasonFor rec m bytes
-rest rec m bytes others g =
+same-reason rec m bytes others g =
     let i = diagnosis rec m bytes .byte in
     sym (only rec m (take i bytes ++ others) (reasonFor rec m bytes)
     (holds-up-to rec m bytes others i (reasonFor rec m bytes) (holds rec m bytes) g (λ k j. stop-byte rec m bytes k j) (start-byte rec m bytes)))
+
+rest : (rec : List ℕ) (m : ℕ) (bytes others : List ℕ) → goesOn (reasonFor rec m bytes) ≡ false
+    → diagnosis rec m (take (diagnosis rec m bytes .byte) bytes ++ others) ≡ diagnosis rec m bytes
+rest rec m bytes others g =
+    let i = diagnosis rec m bytes .byte in
+    let x = take i bytes in
+    let n : goesOn (reasonFor rec m x) ≡ false =
+    ap (λ (y : List ℕ). goesOn (reasonFor rec m y)) (sym (append-nil x)) ∙ ap goesOn (same-reason rec m bytes [] g) ∙ g in
+    later rec m x others n ∙ sym (later rec m x (drop i bytes) n) ∙ ap (diagnosis rec m) (take-append-drop i bytes)
 
 -- ---- the last byte that was read, and the digest
 
@@ -379,8 +403,8 @@ measured rec m bytes t fs rest e a l n =
     x .digest ∙ rw (s .0, s .1)
 
 room : (rec : List ℕ) (m : ℕ) (xs ys : List ℕ) → length xs + length ys < 2 ^ 64
-    → hearing (heard (monitor.begun rec m) xs) ys ≡ record { taken = true; monitor = heard (monitor.begun rec m) (xs ++ ys) }
-unfolding hearing hasRoom
+    → heardPart (heard (monitor.begun rec m) xs) ys ≡ record { taken = true; monitor = heard (monitor.begun rec m) (xs ++ ys) }
+unfolding heardPart hasRoom
 room rec m xs ys l =
     let w = monitor.begun rec m in
     let b : w .position .byte ≡ 0 = ap (λ (q : Position). q .byte) (begun-nowhere rec m) in
@@ -403,9 +427,11 @@ diagnoses =
       start-byte = start-byte;
       first = first-end;
       rest = rest;
-      later = later;
+      all-read = all-read;
+      before-any = before-any;
       stands = stands;
       measured = measured;
+      unmeasured = unmeasured;
       parts = heard-both;
       room = room;
       comes-up = comes-up;

@@ -1,5 +1,5 @@
 -- The calls of a session that hears bytes, one after the other: what the monitor tells is true of the bytes, and it is the end that the session came to.
-use Prim.Native.Nat.{ℕ, suc, _+_, _-_, _≤_}
+use Prim.Native.Nat.{ℕ, suc, _+_, _-_}
 use mathlib.Core.Path.{_≡_, refl, sym, ap, _∙_, subst}
 use mathlib.Core.Logic.{_↔_, _⊎_, inl, inr, ⊎-elim}
 use mathlib.Core.Bool.{Bool, true, false, cond}
@@ -37,9 +37,9 @@ use Rattle.session.proofs.Calls.{Live, Full, AfterGather, unfinished, complete,
 use Rattle.session.proofs.Entries.{among-first, numberOf, call-taken, nothing-started, nothing-stopped}
 use Rattle.session.proofs.Begins.{Runs, number-is, overAfter, fullAfter, next-runs}
 use Rattle.diagnosis.specs.Reasons.{Reason, stopped, started}
-use Rattle.diagnosis.specs.Monitor.{goingOn, byVerdict, frameHeard, positionAfter, moved, ruled, byReport, isOpen, heardByte, heard}
+use Rattle.diagnosis.specs.Monitor.{openReason, byVerdict, frameHeard, positionAfter, moved, ruled, byReport, isOpen, heardByte, heard}
 use Rattle.diagnosis.specs.declared.Verdict.{Verdict}
-use Rattle.diagnosis.specs.declared.Verdict.the-variants.{Stopped}
+use Rattle.diagnosis.specs.declared.Verdict.the-variants.{Open, Stopped}
 use Rattle.diagnosis.specs.declared.Position.{Position}
 use Rattle.diagnosis.specs.declared.Monitor.{Monitor}
 use Rattle.reasons.specs.Meaning.{Waits, Misses, Whole, FrameAt, Asks, Holds}
@@ -47,10 +47,11 @@ use Rattle.reasons.specs.Meaning as meaning
 use Rattle.reasons.specs.Theorems.{Stands, isMeasured, Fits, Next, Hears, endAt, endsOf, endIn}
 use Rattle.reasons.proofs.Closing.{loads-as}
 use Rattle.reasons.proofs.Places.{Reads, begun, one-count, reads-part, reads-whole, stands-next}
-use Rattle.reasons.proofs.Monitors.{reasonIn, heard-after}
+use Rattle.reasons.proofs.Monitors.{reasonIn, heard-after, open-goes}
 use Rattle.reasons.proofs.Following.{Placed, seen, Follows, heard-byte, watching, Weighs, Why, why-command, why-length, why-digest, Agrees, both-go, both-stop, both-start, both}
 use Rattle.diagnosis.proofs.Walk.{frame-stays}
-use Rattle.reasons.proofs.Ends.{monitor-is, unmeasured, no-ends, StartIn, start-later, start-before, no-start, not-started, Measured}
+use Rattle.reasons.proofs.Ends.{monitor-is, no-ends, StartIn, start-later, start-before, no-start, not-started, Measured, Claims, going-unmeasured, digest-stays}
+use Rattle.endian.specs.Lists.{zeros}
 
 module _ (R : Reset) (lent : Admitted R) (client : AsksClient R) where
   abbrev rec : List ℕ
@@ -71,11 +72,8 @@ module _ (R : Reset) (lent : Admitted R) (client : AsksClient R) where
   -- what the monitor w tells after the bytes bs, where es are the calls after them
   pub record Tells (bs rest : List ℕ) (es : List Entry) (w : Monitor) : Type 0 where
     pub ends : endsOf (length bs) es ≡ endIn (reasonIn w)
-    pub holds : Holds rec m (bs ++ rest) (reasonIn w)
     pub starts : (reasonIn w ≡ started) ↔ StartIn es
-    pub stands : 1 ≤ w .position .byte → Stands (bs ++ rest) (w .position .byte) (w .position .frame) (w .position .offset)
-    pub measured : isMeasured (reasonIn w) ≡ true → Measured m (bs ++ rest) w
-    pub start-byte : reasonIn w ≡ started → Starting rec [] m (take (w .position .byte) (bs ++ rest))
+    pub claims : Claims rec m (bs ++ rest) w
 
   -- ---- while the head goes on
 
@@ -91,13 +89,13 @@ module _ (R : Reset) (lent : Admitted R) (client : AsksClient R) where
 
   -- the reason where no byte comes any more
   module _ (os : List (List ℕ)) (bs : List ℕ) (s : State) (r : List ℕ) (v : Live R os bs s r) where
-    abbrev Claims : Reason → Type 0
-    Claims x = ([] ≡ endIn x) × Holds rec m bs x
+    abbrev Endless : Reason → Type 0
+    Endless x = ([] ≡ endIn x) × Holds rec m bs x
 
     abbrev whole-frames : bs ≡ flatten (v .frames) → Whole bs
     whole-frames e = record { frames = v .frames; reads = e; all-good = v .all-good }
 
-    between-frames : bs ≡ flatten (v .frames) → (p : Progress) → Doing R r os p → Claims (goingOn (at R (holding []) p))
+    between-frames : bs ≡ flatten (v .frames) → (p : Progress) → Doing R r os p → Endless (openReason (at R (holding []) p))
     between-frames e p (is-waiting a) =
         (refl, meaning.is-waiting asks (record { whole = whole-frames e; waits = waits-for (v .frames) os (v .owned) a }))
     between-frames e p (is-loading g due t) =
@@ -112,7 +110,7 @@ module _ (R : Reset) (lent : Admitted R) (client : AsksClient R) where
               }),
         )
 
-    in-frame : (h : ℕ) (q : List ℕ) → Partial (h ∷ q) → bs ≡ flatten (v .frames) ++ h ∷ q → Claims (goingOn (at R (holding (h ∷ q)) (v .progress)))
+    in-frame : (h : ℕ) (q : List ℕ) → Partial (h ∷ q) → bs ≡ flatten (v .frames) ++ h ∷ q → Endless (openReason (at R (holding (h ∷ q)) (v .progress)))
     in-frame h q x e =
         rw (ne-eqb (length q + 1) 0 (λ z. omega arith)) (
           refl,
@@ -135,22 +133,28 @@ module _ (R : Reset) (lent : Admitted R) (client : AsksClient R) where
               }),
         )
 
-    by-part : (q : List ℕ) → Partial q → bs ≡ flatten (v .frames) ++ q → Claims (goingOn (at R (holding q) (v .progress)))
+    by-part : (q : List ℕ) → Partial q → bs ≡ flatten (v .frames) ++ q → Endless (openReason (at R (holding q) (v .progress)))
     by-part [] x e = between-frames (e ∙ append-nil _) (v .progress) (v .doing)
     by-part (h ∷ q) x e = in-frame h q x e
 
     at-end : (w : Monitor) → Follows R os bs s w → Tells bs [] [] w
     at-end w f =
-        let e : reasonIn w ≡ goingOn (at R (holding (v .part)) (v .progress)) =
-        ap (λ (x : Verdict). byVerdict x (w .head) (w .position .byte)) (f .live) ∙ ap goingOn (f .head) ∙ ap (λ (x : State). goingOn (seen R x)) (v .state) in
+        let e : reasonIn w ≡ openReason (at R (holding (v .part)) (v .progress)) =
+        ap (λ (x : Verdict). byVerdict x (w .head) (w .position .byte)) (f .live) ∙ ap openReason (f .head) ∙ ap (λ (x : State). openReason (seen R x)) (v .state) in
         let c = by-part (v .part) (v .partial) (v .whole) in
         record {
           ends = c .0 ∙ ap endIn (sym e);
           starts = (λ q. absurd (not-empty (c .0 ∙ ap endIn (sym e ∙ q))), λ x. absurd (no-start [] refl x));
-          stands = f .placed .stands [];
-          measured = λ q. never (sym q ∙ unmeasured (reasonIn w) (c .0 ∙ ap endIn (sym e)));
-          start-byte = λ q. absurd (not-empty (c .0 ∙ ap endIn (sym e ∙ q)));
-          holds = subst (λ (x : List ℕ). Holds rec m x (reasonIn w)) (sym (append-nil bs)) (subst (Holds rec m bs) (sym e) (c .1));
+          claims =
+              record {
+                holds = subst (λ (x : List ℕ). Holds rec m x (reasonIn w)) (sym (append-nil bs)) (subst (Holds rec m bs) (sym e) (c .1));
+                all-read = λ q. f .placed .count ∙ ap length (sym (append-nil bs));
+                before-any = f .placed .before-any;
+                stands = f .placed .stands [];
+                measured = λ q. never (sym q ∙ going-unmeasured (reasonIn w) (open-goes w ∙ ap isOpen (f .live)));
+                unmeasured = λ q. f .blank;
+                start-byte = λ q. absurd (not-empty (c .0 ∙ ap endIn (sym e ∙ q)));
+              };
         }
       where
         not-empty : [] ≡ started ∷ [] → ⊥
@@ -278,14 +282,11 @@ module _ (R : Reset) (lent : Admitted R) (client : AsksClient R) where
   gather-first bs rest b g es w e t =
       record {
         ends = ap (λ (x : List Reason). x ++ endsOf (length bs + 1) es) e ∙ ap (λ (i : ℕ). endsOf i es) (sym (length-snoc bs b)) ∙ t .ends;
-        holds = subst (λ (x : List ℕ). Holds rec m x (reasonIn w)) (append-assoc bs (b ∷ []) rest) (t .holds);
         starts = (
           λ q. start-later (gathers b g) es (t .starts .0 q),
           λ x. t .starts .1 (start-before (gathers b g) es (λ l o q a. impossible cc) x),
         );
-        stands = λ q. subst (λ (x : List ℕ). Stands x (w .position .byte) (w .position .frame) (w .position .offset)) (append-assoc bs (b ∷ []) rest) (t .stands q);
-        measured = λ q. subst (λ (x : List ℕ). Measured m x w) (append-assoc bs (b ∷ []) rest) (t .measured q);
-        start-byte = λ q. subst (λ (x : List ℕ). Starting rec [] m (take (w .position .byte) x)) (append-assoc bs (b ∷ []) rest) (t .start-byte q);
+        claims = subst (λ (x : List ℕ). Claims rec m x w) (append-assoc bs (b ∷ []) rest) (t .claims);
       }
 
   act-first : (bs rest : List ℕ) (l : Loan) (o : Outcome) (es : List Entry) (w : Monitor) → o .report ≡ continues → Tells bs rest es w
@@ -293,14 +294,11 @@ module _ (R : Reset) (lent : Admitted R) (client : AsksClient R) where
   act-first bs rest l o es w e t =
       record {
         ends = ap (λ (x : List Reason). x ++ endsOf (length bs) es) (ap (λ (x : head.Report). endAt x (length bs)) e) ∙ t .ends;
-        holds = t .holds;
         starts = (
           λ q. start-later (acts l o) es (t .starts .0 q),
           λ x. t .starts .1 (start-before (acts l o) es (λ k p q a. not-started k p (acts l o) q a continues e refl) x),
         );
-        stands = t .stands;
-        measured = t .measured;
-        start-byte = t .start-byte;
+        claims = t .claims;
       }
 
   -- the end of the session
@@ -345,6 +343,9 @@ module _ (R : Reset) (lent : Admitted R) (client : AsksClient R) where
     placed : Placed bs (heard-frame .position)
     placed = subst (Placed bs) (sym (frame-stays (requestOf s) w)) (follows .placed)
 
+    still-blank : heard-frame .verdict ≡ Open → heard-frame .digest ≡ zeros 32
+    still-blank e = digest-stays (requestOf s) w (going-unmeasured (reasonIn heard-frame) (open-goes heard-frame ∙ ap isOpen e)) ∙ follows .blank
+
     told : (k : Stop) → heard-frame .verdict ≡ Stopped k → reasonIn heard-frame ≡ stopped (stopNumber k) (length bs)
     told k e =
         ap (λ (x : Verdict). byVerdict x (heard-frame .head) (heard-frame .position .byte)) e
@@ -359,7 +360,7 @@ module _ (R : Reset) (lent : Admitted R) (client : AsksClient R) where
     acted-tells o (both-go e v2 hd hs) (goes-on q v n p) x h one =
         act-first bs rest l o _ _ e
         (next (os ++ f ∷ []) bs (o .state) (o .ram) heard-frame cs v
-        (record { live = v2; head = hd; hash = hs; placed = placed }) (rw q at x) h one)
+        (record { live = v2; head = hd; hash = hs; placed = placed; blank = still-blank v2 }) (rw q at x) h one)
     acted-tells o (both-go e v2 hd hs) (has-started d y z) x h one =
         let q : head.continues ≡ head.started _ _ = sym e ∙ y .report in
         impossible cc
@@ -376,11 +377,17 @@ module _ (R : Reset) (lent : Admitted R) (client : AsksClient R) where
         rw (heard-after heard-frame rest (ap isOpen v))
         record {
           ends = last-end (length bs) (log (o .state) cs) (o .report) (reasonIn heard-frame) (ap (λ (y : head.Report). endAt y (length bs)) e ∙ ap endIn (sym (told k v))) (nothing-stopped (o .state) m cs p);
-          holds = subst (Holds rec m (bs ++ rest)) (sym (told k v)) (frame-stops os f bs s (l .ram) u rest heard-frame k why);
           starts = no-starts (acts l o) (log (o .state) cs) (stopNumber k) (length bs) (reasonIn heard-frame) e (told k v) (nothing-stopped (o .state) m cs p);
-          stands = placed .stands rest;
-          measured = λ y. stop-weighed os f bs s (l .ram) u rest heard-frame k why (ap isMeasured (sym (told k v)) ∙ y);
-          start-byte = λ y. let z : stopped (stopNumber k) (length bs) ≡ started = sym (told k v) ∙ y in impossible cc;
+          claims =
+              record {
+                holds = subst (Holds rec m (bs ++ rest)) (sym (told k v)) (frame-stops os f bs s (l .ram) u rest heard-frame k why);
+                all-read = λ y. never (sym y ∙ open-goes heard-frame ∙ ap isOpen v);
+                before-any = placed .before-any;
+                stands = placed .stands rest;
+                measured = λ y. stop-weighed os f bs s (l .ram) u rest heard-frame k why (ap isMeasured (sym (told k v)) ∙ y);
+                unmeasured = λ y. digest-stays (requestOf s) w y ∙ follows .blank;
+                start-byte = λ y. let z : stopped (stopNumber k) (length bs) ≡ started = sym (told k v) ∙ y in impossible cc;
+              };
         }
     acted-tells o (both-start a n e v x2) (goes-on q y j p) x h one =
         let z : head.started a n ≡ head.continues = sym e ∙ q in
@@ -390,11 +397,17 @@ module _ (R : Reset) (lent : Admitted R) (client : AsksClient R) where
         rw (heard-after heard-frame rest (ap isOpen v))
         record {
           ends = last-end (length bs) (log (o .state) cs) (o .report) (reasonIn heard-frame) (ap (λ (y : head.Report). endAt y (length bs)) e ∙ ap endIn (sym t)) (nothing-started (o .state) m cs (y .state));
-          holds = subst (Holds rec m (bs ++ rest)) (sym t) (start-holds bs rest d);
           starts = (λ q. record { loan = l; out = o; among = start-among o a n e (log (o .state) cs); answered = record { address = a; size = n; answers = e } }, λ x. t);
-          stands = placed .stands rest;
-          measured = λ y. weighed os f bs s (l .ram) u rest heard-frame x2;
-          start-byte = λ y. subst (Starting rec [] m) (sym (ap (λ (i : ℕ). take i (bs ++ rest)) (placed .count) ∙ take-append-seam bs rest)) (starts-so bs d);
+          claims =
+              record {
+                holds = subst (Holds rec m (bs ++ rest)) (sym t) (start-holds bs rest d);
+                all-read = λ y. never (sym y ∙ open-goes heard-frame ∙ ap isOpen v);
+                before-any = placed .before-any;
+                stands = placed .stands rest;
+                measured = λ y. weighed os f bs s (l .ram) u rest heard-frame x2;
+                unmeasured = λ y. digest-stays (requestOf s) w y ∙ follows .blank;
+                start-byte = λ y. subst (Starting rec [] m) (sym (ap (λ (i : ℕ). take i (bs ++ rest)) (placed .count) ∙ take-append-seam bs rest)) (starts-so bs d);
+              };
         }
     acted-tells o (both-start a n e v x2) (has-stopped k q p z) x h one =
         let y : head.started a n ≡ head.stopped k = sym e ∙ q in
@@ -460,7 +473,9 @@ module _ (R : Reset) (lent : Admitted R) (client : AsksClient R) where
                 frames = λ fs p x. frame-is ∙ y fs p x;
                 stands = λ more n.
                     subst (λ (z : List ℕ). Stands z (next-place .byte) (next-place .frame) (next-place .offset)) (sym (append-assoc bs (b ∷ []) more)) (byte-stands more);
+                before-any = λ n. absurd (omega arith);
               };
+          blank = follows .blank;
         }
 
     frame-tells : Reading → (g : Gathering) (f : List ℕ) → Full R os f (bs ++ b ∷ []) (g .state) r → Runs m (g .state) false true → (ds : List Call)
@@ -489,11 +504,17 @@ module _ (R : Reset) (lent : Admitted R) (client : AsksClient R) where
           ends =
               last-end (length bs + 1) (log (g .state) cs) (g .report) (stopped 22 (w .position .byte + 1))
               (ap (λ (y : head.Report). endAt y (length bs + 1)) e ∙ ap endIn t) (nothing-stopped (g .state) m cs q);
-          holds = subst (Holds rec m (bs ++ b ∷ rest)) t h;
           starts = no-starts (gathers b g) (log (g .state) cs) 22 (w .position .byte + 1) (stopped 22 (w .position .byte + 1)) e refl (nothing-stopped (g .state) m cs q);
-          stands = λ n. byte-stands rest;
-          measured = λ n. never (sym n);
-          start-byte = λ y. impossible cc;
+          claims =
+              record {
+                holds = subst (Holds rec m (bs ++ b ∷ rest)) t h;
+                all-read = λ n. never (sym n);
+                before-any = λ n. absurd (omega arith);
+                stands = λ n. byte-stands rest;
+                measured = λ n. never (sym n);
+                unmeasured = λ n. follows .blank;
+                start-byte = λ y. impossible cc;
+              };
         }
 
     byte-tells : (g : Gathering) → AfterGather R os (bs ++ b ∷ []) r g → ((g .report ≡ head.stopped 22 → ⊥) → Reading) → (g .report ≡ head.stopped 22 → Holds rec m (bs ++ b ∷ rest) (stopped 22 (length bs + 1)))

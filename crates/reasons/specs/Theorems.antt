@@ -7,7 +7,7 @@ use mathlib.Core.Bool.{Bool, true, false}
 use mathlib.Core.List.{List, [], _∷_, _++_, flatten}
 use lib.Dec.{eqb}
 use lib.ListN.{length, getD, take}
-use Rattle.endian.specs.Lists.{All, Words}
+use Rattle.endian.specs.Lists.{zeros, All, Words}
 use Rattle.framing.specs.Header.{headerAt, bodyLen}
 use Rattle.session.specs.Reading.{Good, own, digestOf, Loads, needed, Starting}
 use Rattle.head.specs.Answers as head
@@ -16,7 +16,7 @@ use Rattle.session.specs.Session.{Reset, begun, AsksClient, Admitted, Loan, Ent
 use Rattle.session.specs.Boot.{Started}
 use Rattle.diagnosis.specs.Reasons.{Reason, refused, stopped, unfinished, waiting, missing, started}
 use Rattle.diagnosis.specs.Monitor as monitor
-use Rattle.diagnosis.specs.Monitor.{heard, hearing, diagnosis}
+use Rattle.diagnosis.specs.Monitor.{heard, heardPart, diagnosis}
 use Rattle.diagnosis.specs.declared.Monitor.{Monitor}
 use Rattle.reasons.specs.Meaning.{Holds}
 use Rattle.reasons.specs.Examples.{Told, examples}
@@ -103,7 +103,7 @@ endIn (missing n) = []
 endIn started = started ∷ []
 
 -- a session on this reset that hears these bytes, with this RAM at its first acting
-pub record Hearing (R : Reset) (ram bytes : List ℕ) : Type 0 where
+pub record SessionHearing (R : Reset) (ram bytes : List ℕ) : Type 0 where
   pub session : Session
   pub same-reset : session .reset ≡ R
   pub same-ram : session .ram ≡ ram
@@ -125,26 +125,30 @@ pub record Diagnoses : Type 0 where
   -- there are such sessions for all bytes, RAM and UDS, on every reset that asks for a client program, and there is a reset for each record and RAM
   -- length that 6 and 7 do not refuse
   pub exists : (R : Reset) (ram uds bytes : List ℕ) → Admitted R → AsksClient R → length ram ≡ length (R .ram) → length uds ≡ 8 → Words uds
-      → Hearing R ram bytes
+      → SessionHearing R ram bytes
   pub resets : (rec : List ℕ) (m : ℕ) → length rec ≡ 256 → 1 ≤ m → m ≤ 131072 → (R : Reset) × (R .rec ≡ rec) × (length (R .ram) ≡ m) × Admitted R
   -- byte i of a stop is the last that was read, and so is the last byte of a start
   pub stop-byte : (rec : List ℕ) (m : ℕ) (bytes : List ℕ) (k i : ℕ) → reasonFor rec m bytes ≡ stopped k i → diagnosis rec m bytes .byte ≡ i
   pub start-byte : (rec : List ℕ) (m : ℕ) (bytes : List ℕ) → reasonFor rec m bytes ≡ started → Starting rec [] m (take (diagnosis rec m bytes .byte) bytes)
   -- no byte before it gave a stop or a start
   pub first : (rec : List ℕ) (m : ℕ) (bytes : List ℕ) (j : ℕ) → j < diagnosis rec m bytes .byte → goesOn (reasonFor rec m (take j bytes)) ≡ true
-  -- and no byte after a stop or a start matters: not if they are others, and not if there are more
+  -- and no byte after a stop or a start matters
   pub rest : (rec : List ℕ) (m : ℕ) (bytes others : List ℕ) → goesOn (reasonFor rec m bytes) ≡ false
-      → reasonFor rec m (take (diagnosis rec m bytes .byte) bytes ++ others) ≡ reasonFor rec m bytes
-  pub later : (rec : List ℕ) (m : ℕ) (bytes more : List ℕ) → goesOn (reasonFor rec m bytes) ≡ false → diagnosis rec m (bytes ++ more) ≡ diagnosis rec m bytes
-  -- the last byte that was read stands where the diagnosis says
+      → diagnosis rec m (take (diagnosis rec m bytes .byte) bytes ++ others) ≡ diagnosis rec m bytes
+  -- where the head goes on, all bytes were read
+  pub all-read : (rec : List ℕ) (m : ℕ) (bytes : List ℕ) → goesOn (reasonFor rec m bytes) ≡ true → diagnosis rec m bytes .byte ≡ length bytes
+  -- the last byte that was read stands where the diagnosis says; where none was, there is no place
+  pub before-any : (rec : List ℕ) (m : ℕ) (bytes : List ℕ) → let d = diagnosis rec m bytes in d .byte ≡ 0 → (d .frame ≡ 0) × (d .offset ≡ 0)
   pub stands : (rec : List ℕ) (m : ℕ) (bytes : List ℕ) → let d = diagnosis rec m bytes in 1 ≤ d .byte → Stands bytes (d .byte) (d .frame) (d .offset)
   -- the digest, at a start and at stop 25, is that of the program which the bytes carry, however they are read as whole good frames with all of it
   pub measured : (rec : List ℕ) (m : ℕ) (bytes : List ℕ) → isMeasured (reasonFor rec m bytes) ≡ true
       → (fs : List (List ℕ)) (rest : List ℕ) → bytes ≡ flatten fs ++ rest → All Good fs → (l : Loads m (own fs)) → length (l .blocks) ≡ needed l
       → diagnosis rec m bytes .digest ≡ digestOf (l .load) (l .blocks)
+  -- and otherwise zeros
+  pub unmeasured : (rec : List ℕ) (m : ℕ) (bytes : List ℕ) → isMeasured (reasonFor rec m bytes) ≡ false → diagnosis rec m bytes .digest ≡ zeros 32
   -- bytes may be told in parts, and the counts have room for 2^64 - 1 of them
   pub parts : (w : Monitor) (xs ys : List ℕ) → heard w (xs ++ ys) ≡ heard (heard w xs) ys
   pub room : (rec : List ℕ) (m : ℕ) (xs ys : List ℕ) → length xs + length ys < 2 ^ 64
-      → hearing (heard (monitor.begun rec m) xs) ys ≡ record { taken = true; monitor = heard (monitor.begun rec m) (xs ++ ys) }
+      → heardPart (heard (monitor.begun rec m) xs) ys ≡ record { taken = true; monitor = heard (monitor.begun rec m) (xs ++ ys) }
   -- each reason comes up
   pub comes-up : All Told examples

@@ -1,13 +1,13 @@
 -- The test is that of the definition.
 use mathlib.Core.Path.{sym, _∙_}
 use borrow.Author.Tests.{not-true, not-false}
-use Rattle.diagnosis.specs.Monitor.{hasRoom, hearing}
+use Rattle.diagnosis.specs.Monitor.{hasRoom, heardPart}
 use borrow.Author.Needs.{needs}
 use Rattle.diagnosis.proofs.listening.hear.Statement.{statement}
 use Rattle.diagnosis.proofs.listening.hear.Tie as tie
 
 returns : tie.Need-returns
-unfolding hasRoom hearing
+unfolding hasRoom heardPart
 returns c = let h = c .before .has-room in rw (← (h .ensures), not-true (h .result) (c .if1 .taken))
 
 hear-all-requires : tie.Need-hear-all-requires
@@ -15,7 +15,7 @@ unfolding hasRoom
 hear-all-requires c κs = let h = c .before .has-room in sym (h .ensures) ∙ not-false (h .result) (c .if1 .left)
 
 returns-2 : tie.Need-returns-2
-unfolding hasRoom hearing
+unfolding hasRoom heardPart
 returns-2 c =
     let t = c .before in
     let h = t .before .has-room in
