@@ -6,7 +6,7 @@ mod words;
 
 use diagnosis::Monitor;
 use diagnosis::Verdict;
-use files::Contents;
+use input::Contents;
 use libc::STDIN_FILENO;
 use libc::STDOUT_FILENO;
 
@@ -38,7 +38,7 @@ fn run() -> u32 {
     if os::errno() != 0 {
         return files::fail(&name);
     }
-    match files::read(&name[..n], &mut record) {
+    match input::read(&name[..n], &mut record) {
         Contents::Unreadable => files::fail(&name[..n]),
         Contents::Bytes(len) => begin(&name[..n], endian::first(&record, len)),
     }
@@ -46,7 +46,7 @@ fn run() -> u32 {
 
 // The record is read.
 fn begin(name: &[u8], record: &[u8]) -> u32 {
-    let monitor = diagnosis::begin(record, files::number_at(3) as usize);
+    let monitor = diagnosis::begin(record, input::number_at(3) as usize);
     let verdict = monitor.verdict;
     match verdict {
         Verdict::Refused(why) => files::refuse(name, words::refusal(why)),

@@ -6,7 +6,7 @@ mod files;
 mod line;
 
 use client::Secret;
-use files::Contents;
+use input::Contents;
 use libc::STDERR_FILENO;
 use libc::STDOUT_FILENO;
 use upload::Failure;
@@ -28,7 +28,7 @@ fn run() -> u32 {
     if os::errno() != 0 {
         return files::fail(&name);
     }
-    match files::read(&name[..n], &mut program) {
+    match input::read(&name[..n], &mut program) {
         Contents::Unreadable => files::fail(&name[..n]),
         Contents::Bytes(len) => begin(&name[..n], endian::first(&program, len)),
     }
@@ -36,7 +36,7 @@ fn run() -> u32 {
 
 // The program is read: looks at what is to be loaded before anything else.
 fn begin(name: &[u8], program: &[u8]) -> u32 {
-    let job = upload::job_of(program, files::id(files::number_at(3)), files::number_at(4));
+    let job = upload::job_of(program, files::id(input::number_at(3)), input::number_at(4));
     let t = upload::open(job);
     let next = t.next;
     if upload::is_over(next) {
@@ -56,7 +56,7 @@ fn with_secret(program: &[u8], job: Job) -> u32 {
     if os::errno() != 0 {
         return files::fail(&name);
     }
-    match files::read(&name[..n], &mut file) {
+    match input::read(&name[..n], &mut file) {
         Contents::Unreadable => files::fail(&name[..n]),
         Contents::Bytes(len) => {
             if len != 32 {
@@ -69,7 +69,7 @@ fn with_secret(program: &[u8], job: Job) -> u32 {
 
 // Loads, and says how it went.
 fn load(program: &[u8], job: Job, secret: Secret) -> u32 {
-    if files::number_at(5) == 0 {
+    if input::number_at(5) == 0 {
         return 0;
     }
     let mut name = io::buffer();

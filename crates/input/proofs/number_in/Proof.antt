@@ -3,8 +3,8 @@ use Prim.Native.Nat.{_-_, _≤_}
 use native.Mathlib.Omega.{arith}
 use lib.ListN.{length}
 use borrow.Author.Needs.{needs}
-use Rattle.load.proofs.files.number_in.Statement.{statement}
-use Rattle.load.proofs.files.number_in.Tie as tie
+use Rattle.input.proofs.number_in.Statement.{statement}
+use Rattle.input.proofs.number_in.Tie as tie
 
 abbrev Inv-loop : tie.InvT-loop
 Inv-loop s number₀ i₀ number i = (i ≤ length s) × (number ≤ 99999999)
