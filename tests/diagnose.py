@@ -541,6 +541,18 @@ def usage(folder):
     expect("statuses in --help", [(int(number), words) for number, words in lines], list(STATUSES.items()))
 
 
+def readme(folder):
+    """README's example: the sample on a record that requires another digest; and its exit statuses."""
+    section = (TOP / "README.md").read_text().split("## Why did the loom not start?")[1].split("\n## ")[0]
+    lines = re.findall(r"^    (?!\$)(.*\n)", section, re.M)
+    program = (TOP / "sample" / "program.bin").read_bytes()
+    inside = Path(tempfile.mkdtemp(dir=folder))
+    record = written(inside, "record.bin", record_of(5, blake2s(b"other")))
+    capture = written(inside, "capture.bin", after(load(len(program), 0), *blocks(program, 0x13)))
+    expect("the example", run(record, capture), (0, "".join(lines), ""))
+    expect("exit statuses", [int(number) for number in re.findall(r"^\| ([0-9]+) \|", section, re.M)], list(STATUSES))
+
+
 def cases():
     yield "a start", diagnosed(4, STARTED)
     yield "another digest", diagnosed(5, STARTED)
@@ -560,7 +572,7 @@ def cases():
     yield "no stream", redirected(0, "", "", '"$1" "$2" <&- >&- 2>&-')
     unread = "diagnose: standard input: cannot be read: Bad file descriptor\n"
     yield "standard input that is only written", redirected(3, "", unread, '"$1" - 0> /dev/null')
-    for case in (live, interrupted, unreadable, closed_pipe, names, elsewhere, dies, usage):
+    for case in (live, interrupted, unreadable, closed_pipe, names, elsewhere, dies, usage, readme):
         yield case.__name__, case
     yield "not built", simulate.not_built("diagnose", "a", "b")
 
