@@ -15,6 +15,7 @@ import sys
 from collections import Counter
 from pathlib import Path
 
+import driven
 import server
 from head import PRINTER_RAM, TYPE_CLIENT, TYPE_CLIENT_VER, blake2s
 from random_sessions import HEADLOG, play
@@ -101,14 +102,7 @@ class Calls:
 
     def run(self):
         """What each call wrote; or the test ends."""
-        done = subprocess.run([PROGRAM], input=b"".join(self.data), stdout=subprocess.PIPE)
-        lines = done.stdout.decode().splitlines()
-        for k, (what, wanted) in enumerate(self.wanted):
-            line = lines[k] if k < len(lines) else f"nothing: it ended with status {done.returncode}"
-            if line != wanted:
-                sys.exit(f"c_client: {what}\n  got      {line}\n  expected {wanted}")
-        if done.returncode != 0 or len(lines) != len(self.wanted):
-            sys.exit(f"c_client: {len(lines)} lines for {len(self.wanted)} calls, exit status {done.returncode}")
+        lines = driven.lines("c_client", PROGRAM, self.data, self.wanted)
         return [bytes.fromhex(line.split()[-1])[len(SPARE) : -len(SPARE)] for line in lines]
 
 

@@ -9,6 +9,7 @@ import sys
 from collections import Counter
 from pathlib import Path
 
+import driven
 from diagnose import STARTED, cut_sessions, damaged, few_bytes, lengths, types
 from head import PREFIX, PRINTER_RAM, RAM_MOST
 from reasons import Reason, kinds, missing_kinds, reason_of, reasons, record_of
@@ -77,14 +78,7 @@ class Calls:
         self.wanted.append((what, line(reason)))
 
     def run(self):
-        done = subprocess.run([PROGRAM], input=b"".join(self.data), stdout=subprocess.PIPE)
-        lines = done.stdout.decode().splitlines()
-        for k, (what, wanted) in enumerate(self.wanted):
-            got = lines[k] if k < len(lines) else f"nothing: it ended with status {done.returncode}"
-            if got != wanted:
-                sys.exit(f"c_diagnose: {what}\n  got      {got}\n  expected {wanted}")
-        if done.returncode != 0 or len(lines) != len(self.wanted):
-            sys.exit(f"c_diagnose: {len(lines)} lines for {len(self.wanted)} calls, exit status {done.returncode}")
+        driven.lines("c_diagnose", PROGRAM, self.data, self.wanted)
 
 
 def long_calls(calls):

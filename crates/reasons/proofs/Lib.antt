@@ -10,4 +10,5 @@ pub mod Ends
 pub mod Walks
 pub mod Existing
 pub mod Examples
+pub mod Numbers
 pub mod Proved

@@ -1,7 +1,7 @@
 -- The theorem of specs/Theorems.antt.
 use Prim.Native.Nat.{ℕ, zero, suc, _+_, _^_, _<_, _≤_}
 use mathlib.Core.Path.{_≡_, refl, sym, ap, _∙_, subst}
-use mathlib.Core.Logic.{_↔_, inl, inr, ⊎-elim}
+use mathlib.Core.Logic.{_↔_, _⊎_, inl, inr, ⊎-elim}
 use mathlib.Core.Bool.{true, false}
 use mathlib.Core.List.{List, [], _∷_, _++_, append-assoc, append-nil, flatten}
 use native.Mathlib.Omega.{arith}
@@ -46,6 +46,8 @@ use Rattle.reasons.proofs.Monitors as monitors
 use Rattle.reasons.proofs.Ends.{Claims}
 use Rattle.reasons.proofs.Walks.{Tells, walk}
 use Rattle.reasons.proofs.Examples.{comes-up}
+use Rattle.reasons.proofs.Numbers.{answers, refusal-told}
+use Rattle.diagnosis.specs.Calls.{diagnoseCall}
 use Rattle.reasons.proofs.Existing.{Heard, hears-all}
 
 -- the reason, by what was heard
@@ -413,6 +415,11 @@ room rec m xs ys l =
     rw (lt-ltb (heard w xs .position .byte + length ys) (2 ^ 64) (omega arith), lt-ltb (heard w xs .position .frame + length ys) (2 ^ 64) (omega arith))
     (ap (λ (x : Monitor). record { taken = true; monitor = x }) (sym (heard-both w xs ys)))
 
+kept : (rec : List ℕ) (m : ℕ) (bytes counts digest : List ℕ) → let c = diagnoseCall rec m bytes counts digest in
+    (c .answer ≡ 6) ⊎ ((c .answer ≡ 7) ⊎ (c .answer ≡ 48)) → (c .counts ≡ counts) × (c .digest ≡ digest)
+unfolding diagnoseCall
+kept rec m bytes counts digest x = let e = refusal-told rec m bytes (reasonFor rec m bytes) (holds rec m bytes) x in rw e (refl, refl)
+
 pub diagnoses : Diagnoses
 diagnoses =
     record {
@@ -434,5 +441,7 @@ diagnoses =
       unmeasured = unmeasured;
       parts = heard-both;
       room = room;
+      answers = answers;
+      kept = kept;
       comes-up = comes-up;
     }

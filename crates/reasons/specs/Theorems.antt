@@ -2,7 +2,7 @@
 -- `diagnoses` in proofs/Proved.antt.
 use Prim.Native.Nat.{ℕ, _+_, _^_, _<_, _≤_}
 use mathlib.Core.Path.{_≡_}
-use mathlib.Core.Logic.{_↔_}
+use mathlib.Core.Logic.{_↔_, _⊎_}
 use mathlib.Core.Bool.{Bool, true, false}
 use mathlib.Core.List.{List, [], _∷_, _++_, flatten}
 use lib.Dec.{eqb}
@@ -14,7 +14,9 @@ use Rattle.head.specs.Answers as head
 use Rattle.head.specs.Answers.{Report, reportsWhole}
 use Rattle.session.specs.Session.{Reset, begun, AsksClient, Admitted, Loan, Entry, gathers, acts, Session, ramLen, allOf}
 use Rattle.session.specs.Boot.{Started}
-use Rattle.diagnosis.specs.Reasons.{Reason, refused, stopped, unfinished, waiting, missing, started}
+use Rattle.diagnosis.specs.Reasons.{Reason, refused, stopped, unfinished, waiting, missing, started, reasonOf, numberOf}
+use Rattle.diagnosis.specs.Calls.{missingIn, diagnoseCall}
+use Rattle.diagnosis.specs.declared.Finding.{Finding}
 use Rattle.diagnosis.specs.Monitor as monitor
 use Rattle.diagnosis.specs.Monitor.{heard, heardPart, diagnosis}
 use Rattle.diagnosis.specs.declared.Monitor.{Monitor}
@@ -150,5 +152,9 @@ pub record Diagnoses : Type 0 where
   pub parts : (w : Monitor) (xs ys : List ℕ) → heard w (xs ++ ys) ≡ heard (heard w xs) ys
   pub room : (rec : List ℕ) (m : ℕ) (xs ys : List ℕ) → length xs + length ys < 2 ^ 64
       → heardPart (heard (monitor.begun rec m) xs) ys ≡ record { taken = true; monitor = heard (monitor.begun rec m) (xs ++ ys) }
+  -- what a C program is given tells the findings apart, and a call that answers the number of a refusal leaves what it was lent
+  pub answers : (f g : Finding) (i : ℕ) → numberOf (reasonOf f i) ≡ numberOf (reasonOf g i) → missingIn (reasonOf f i) ≡ missingIn (reasonOf g i) → f ≡ g
+  pub kept : (rec : List ℕ) (m : ℕ) (bytes counts digest : List ℕ) → let c = diagnoseCall rec m bytes counts digest in
+      (c .answer ≡ 6) ⊎ ((c .answer ≡ 7) ⊎ (c .answer ≡ 48)) → (c .counts ≡ counts) × (c .digest ≡ digest)
   -- each reason comes up
   pub comes-up : All Told examples
