@@ -229,6 +229,8 @@ static uint32_t reply(struct head *h, uint8_t code, int length_code, const void 
     h->room[0] = (h->f->header & 0x60) | 2 << 3 | length_code;
     h->room[1] = code;
     memcpy(h->room + 2, content, n);
+    if (code != 0x02 && h->room[2] == 1) /* the name has no status */
+        h->room[0] |= 1 << 2;
     *h->reply_len = 1 + len;
     clear_frame(h->f);
     return MASTFRAP_CONTINUE;

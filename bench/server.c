@@ -47,9 +47,9 @@ uint32_t plain_read_reply(size_t len, uint8_t id, uint32_t k, const uint8_t *rep
         return no;
     int last = k != 0 && k == (len + 126) / 127;
     size_t body = last ? 128 : 4, filler = last ? 35 : 3;
-    if (reply_len != body + 1 || reply[0] != (id << 5 | 2 << 3 | (last ? 3 : 1)))
+    if (reply_len != body + 1 || reply[2] > 1 || reply[0] != (id << 5 | 2 << 3 | reply[2] << 2 | (last ? 3 : 1)))
         return 43;
-    if (reply[1] != (k == 0 ? 4 : last ? 7 : 6) || reply[2] > 1)
+    if (reply[1] != (k == 0 ? 4 : last ? 7 : 6))
         return 43;
     for (size_t i = filler; i < reply_len; i++)
         if (reply[i] != 0)

@@ -40,6 +40,7 @@ KINDS = {
     "making": [f"answered {n}" for n in (0, 3, 40, 41, 42)],
     "reading": [f"answered {n}" for n in (0, 40, 41, 42, 43)],
     "differing": [f"in {what}" for what in DIFFERENCES],
+    "disagreeing": ["with bit 2 alone", "with the status byte alone"],
     "taken": ["with status 0", "with status 1", "with a digest"],
     "headlog": ["started", "had no RAM for it", "stopped with 25"],
 }
@@ -93,6 +94,8 @@ class Calls:
         differs = server.difference(length, id, k, reply)
         self.seen["reading", f"answered {number}"] += 1
         self.seen["differing", f"in {DIFFERENCES[differs]}"] += 1
+        if differs == DIFFERENCES.index("status") and reply[2] <= 1:
+            self.seen["disagreeing", "with bit 2 alone" if reply[0] & 4 else "with the status byte alone"] += 1
         if number:
             self.want(call, what, f"{differs} {number}", b"\xaa", b"\xaa" * 32)
             return

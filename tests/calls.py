@@ -10,7 +10,7 @@ from pathlib import Path
 PROGRAM = Path(__file__).parent.parent / "target" / "bin" / "test_calls"
 SIZE = 320  # of a call
 
-HASH_BEGIN, HASH_UPDATE, HASH_FINISH, READ_HEADER, WRITE_HEADER, DERIVE = range(2, 8)
+HASH_BEGIN, HASH_UPDATE, HASH_FINISH, READ_HEADER, WRITE_HEADER, DERIVE, READ_REPLY_HEADER = range(2, 9)
 
 
 class Calls:
@@ -34,11 +34,14 @@ class Calls:
         self.add(what, HASH_FINISH, bytes([size]), ("answer", struct.pack("<I", number)), ("output", out.ljust(255, b"\xaa")))
 
     def read_header(self, byte, *fields):
-        self.add(f"header {byte:02x}", READ_HEADER, bytes([byte]), ("fields", bytes(fields)))
+        self.add(f"command header {byte:02x}", READ_HEADER, bytes([byte]), ("fields", bytes(fields)))
 
-    def write_header(self, id, endpoint, length, header):
-        call = struct.pack("<BBxQ", id, endpoint, length)
-        self.add(f"header of ID {id}, endpoint {endpoint}, length {length}", WRITE_HEADER, call, ("header", bytes([header])))
+    def read_reply_header(self, byte, *fields):
+        self.add(f"reply header {byte:02x}", READ_REPLY_HEADER, bytes([byte]), ("fields", bytes(fields)))
+
+    def write_header(self, id, endpoint, length, status, header):
+        call = struct.pack("<BBBQ", id, endpoint, status, length)
+        self.add(f"header of ID {id}, endpoint {endpoint}, length {length}, status {status}", WRITE_HEADER, call, ("header", bytes([header])))
 
     def derive(self, what, chained, used, parts, cdi):
         self.add(what, DERIVE, struct.pack("<BB5x", chained, used) + b"".join(parts), ("CDI", cdi))

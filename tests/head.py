@@ -8,6 +8,7 @@ from dataclasses import dataclass, field
 
 ZEROS = bytes(32)
 FIRMWARE = 2
+NAME_REPLY = 0x02  # the only reply without a status
 ADDRESS = 0x40000000
 
 RECORD = 256
@@ -163,15 +164,18 @@ class Head:
 
     @staticmethod
     def reply(f, room, code, length, content):
-        """Writes a reply, and says how many bytes it has."""
+        """Writes a reply, and says how many bytes it has. Its content begins with the status, but for name and version, which has none;
+        bit 2 of the header says that the status is 1."""
         header = (f.header & 0b01100000) | FIRMWARE << 3 | [1, 4, 32, 128].index(length)
+        if code != NAME_REPLY and content[0] == 1:
+            header |= 0b00000100
         reply = bytes([header, code]) + content
         reply += bytes(1 + length - len(reply))
         room[: len(reply)] = reply
         return len(reply)
 
     def say_name(self, f, room, ram, words):
-        return Answer("W", reply=self.reply(f, room, 0x02, 32, b"tk1 mkdf" + (1).to_bytes(4, "little")))
+        return Answer("W", reply=self.reply(f, room, NAME_REPLY, 32, b"tk1 mkdf" + (1).to_bytes(4, "little")))
 
     def say_udi(self, f, room, ram, words):
         return Answer("W", reply=self.reply(f, room, 0x09, 32, b"\0" + self.udi))

@@ -53,14 +53,14 @@ def blocks(program):
 # ---- what is printed, in the words of document 01
 
 
-def reply(frame_id, length, content):
-    """The line of a reply from endpoint 2."""
-    header = frame_id << 5 | 2 << 3 | [1, 4, 32, 128].index(length)
+def reply(frame_id, length, content, status=0):
+    """The line of a reply from endpoint 2, with its status as bit 2 of the header."""
+    header = frame_id << 5 | 2 << 3 | status << 2 | [1, 4, 32, 128].index(length)
     return "R " + (bytes([header]) + content.ljust(length, b"\0")).hex()
 
 
 def load_reply(status, frame_id=0):
-    return reply(frame_id, 4, bytes([0x04, status]))
+    return reply(frame_id, 4, bytes([0x04, status]), status)
 
 
 def block_replies(program):

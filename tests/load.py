@@ -32,6 +32,7 @@ LOAD = TOP / "load"
 SECONDS = 30
 MEANING = "a head of type 4 has started it; one of type 5 has if its record requires this digest, and shows its lamp (25) otherwise\n"
 AGAIN = "; reset the head and load again"
+DISAGREES = "status is not bit 2 of its header"
 WAITING = " of silence; is the head waiting for a program? has it stopped?"
 CLOSED = " was whole; is the cable plugged in? has the head power?"
 
@@ -148,8 +149,8 @@ def unanswered(k, seconds="0.5", came="no answer"):
     return failed(f"{came} to {name_of(k)} in {seconds} s{WAITING}")
 
 
-def unexpected(k, name, hex):
-    return failed(f"the reply to {name_of(k)} is not the expected one (43), its {name} differs: {hex}{AGAIN}")
+def unexpected(k, what, hex):
+    return failed(f"the reply to {name_of(k)} is not the expected one (43), its {what}: {hex}{AGAIN}")
 
 
 def closed(k):
@@ -204,6 +205,11 @@ def second(line):
         line.write(server.reply(300, 0, k, 0, blake2s(PROGRAM)))
 
 
+def refused(k):
+    """The reply to frame k with status 1, in header and status byte."""
+    return lambda reply: server.reply(300, 0, k, 1, b"")
+
+
 SOME_RATE = "(, [0-9]+ bytes/s)?"  # a load of no time may pass from one second to the next
 
 
@@ -234,20 +240,25 @@ LINES = [
     ("a truncated reply", at(1, lambda reply: reply[:3]), 5, unanswered(1, came="only 110600 came in answer"), 2, {}),
     ("a truncated last reply", at(3, lambda reply: reply[:128]), 5, unanswered(3, came=f"only {last[:128].hex()} came in answer"), 4, {}),
     ("dripping", dripping, 5, re.compile(re.escape(unanswered(0, came="only 13 came in answer")).replace("13", "(13){2,6}")), 1, {}),
-    ("an echo", echo, 7, unexpected(0, "header", server.frame(PROGRAM, 0, None, 0).hex()), 1, {}),
-    ("garbage", garbage, 7, unexpected(0, "header", "ff"), 1, {}),
-    ("another ID", at(1, put(0, 0x31)), 7, unexpected(1, "header", "3106000000"), 2, {}),
-    ("another endpoint", at(1, put(0, 0x19)), 7, unexpected(1, "header", "1906000000"), 2, {}),
-    ("bit 2", at(1, put(0, 0x15)), 7, unexpected(1, "header", "15"), 2, {}),
-    ("a short frame", at(1, lambda reply: b"\x10\x06"), 7, unexpected(1, "header", "1006"), 2, {}),
-    ("another code", at(1, put(1, 0x04)), 7, unexpected(1, "code", "1104000000"), 2, {}),
-    ("status 2", at(1, put(2, 2)), 7, unexpected(1, "status", "1106020000"), 2, {}),
-    ("status 2 to the load", at(0, put(2, 2)), 7, unexpected(0, "status", "1104020000"), 1, {}),
-    ("filler", at(1, put(4, 1)), 7, unexpected(1, "filler", "1106000001"), 2, {}),
-    ("filler behind the digest", at(3, put(128, 9)), 7, unexpected(3, "filler", put(128, 9)(last).hex()), 4, {}),
-    ("a byte too many", at(1, lambda reply: reply + b"\0"), 7, unexpected(2, "header", "0011"), 3, {}),
-    ("status 1 to the load", at(0, put(2, 1)), 8, failed("the program does not fit this head's RAM (status 1); load a smaller one"), 1, {}),
-    ("status 1 to a block", at(2, put(2, 1)), 8, failed(f"the head refused {name_of(2)} (status 1){AGAIN}"), 3, {}),
+    ("an echo", echo, 7, unexpected(0, "header differs", server.frame(PROGRAM, 0, None, 0).hex()), 1, {}),
+    ("garbage", garbage, 7, unexpected(0, "header differs", "ff"), 1, {}),
+    ("another ID", at(1, put(0, 0x31)), 7, unexpected(1, "header differs", "3106000000"), 2, {}),
+    ("another endpoint", at(1, put(0, 0x19)), 7, unexpected(1, "header differs", "1906000000"), 2, {}),
+    ("bit 7", at(1, put(0, 0x91)), 7, unexpected(1, "header differs", "91"), 2, {}),
+    ("bit 2 alone", at(1, put(0, 0x15)), 7, unexpected(1, DISAGREES, "1506000000"), 2, {}),
+    ("bit 2 alone to the load", at(0, put(0, 0x15)), 7, unexpected(0, DISAGREES, "1504000000"), 1, {}),
+    ("bit 2 alone in the last", at(3, put(0, 0x17)), 7, unexpected(3, DISAGREES, put(0, 0x17)(last).hex()), 4, {}),
+    ("status 1 alone", at(2, put(2, 1)), 7, unexpected(2, DISAGREES, "1106010000"), 3, {}),
+    ("status 1 alone to the load", at(0, put(2, 1)), 7, unexpected(0, DISAGREES, "1104010000"), 1, {}),
+    ("a short frame", at(1, lambda reply: b"\x10\x06"), 7, unexpected(1, "header differs", "1006"), 2, {}),
+    ("another code", at(1, put(1, 0x04)), 7, unexpected(1, "code differs", "1104000000"), 2, {}),
+    ("status 2", at(1, put(2, 2)), 7, unexpected(1, DISAGREES, "1106020000"), 2, {}),
+    ("status 2 to the load", at(0, put(2, 2)), 7, unexpected(0, DISAGREES, "1104020000"), 1, {}),
+    ("filler differs", at(1, put(4, 1)), 7, unexpected(1, "filler differs", "1106000001"), 2, {}),
+    ("filler behind the digest", at(3, put(128, 9)), 7, unexpected(3, "filler differs", put(128, 9)(last).hex()), 4, {}),
+    ("a byte too many", at(1, lambda reply: reply + b"\0"), 7, unexpected(2, "header differs", "0011"), 3, {}),
+    ("status 1 to the load", at(0, refused(0)), 8, failed("the program does not fit this head's RAM (status 1); load a smaller one"), 1, {}),
+    ("status 1 to a block", at(2, refused(2)), 8, failed(f"the head refused {name_of(2)} (status 1){AGAIN}"), 3, {}),
     ("another digest", at(3, lambda reply: server.reply(300, 0, 3, 0, other)), 9,
      failed(f"the head measured another digest, {other.hex()}; it has not this program, and if it is of type 4 it has started another: "
             "reset the head and load again"), 4, {}),

@@ -1,4 +1,4 @@
-"""The server's half of a load, written again from change request 1 and document 01: what the tests hold the client to.
+"""The server's half of a load, written again from change requests 1 and 5 and document 01: what the tests hold the client to.
 
 Nothing here is taken from the client. A call's number is 0, or the lowest refusal that applies.
 """
@@ -17,9 +17,9 @@ def refusal(length, id, k, room=FRAME):
     return min((n for n, applies in numbers.items() if applies), default=0)
 
 
-def whole(id, body, length):
-    """A frame of the firmware, its body filled up to this length with zeros."""
-    return bytes([id << 5 | 2 << 3 | [1, 4, 32, 128].index(length)]) + body + bytes(length - len(body))
+def whole(id, body, length, status=0):
+    """A frame of the firmware, its body filled up to this length with zeros; bit 2 is the status of a reply."""
+    return bytes([id << 5 | 2 << 3 | status << 2 | [1, 4, 32, 128].index(length)]) + body + bytes(length - len(body))
 
 
 def frame(program, id, secret, k):
@@ -32,8 +32,8 @@ def frame(program, id, secret, k):
 def reply(length, id, k, status, digest):
     """The reply to frame k, which has the digest if that is the last."""
     if k == blocks(length):
-        return whole(id, bytes([7, status]) + digest, 128)
-    return whole(id, bytes([4 if k == 0 else 6, status]), 4)
+        return whole(id, bytes([7, status]) + digest, 128, status)
+    return whole(id, bytes([4 if k == 0 else 6, status]), 4, status)
 
 
 def read(length, id, k, received):
@@ -51,7 +51,10 @@ def difference(length, id, k, received):
     """The number of the first difference from the expected reply: 1 header, 2 length, 3 code, 4 status, 5 filler; 0 also where none is expected."""
     if refusal(length, id, k):
         return 0
+    if not received:
+        return 1
     right = reply(length, id, k, 0, ZEROS)
     filler = 35 if k == blocks(length) else 3
-    differs = [received[:1] != right[:1], len(received) != len(right), received[1:2] != right[1:2], received[2:3] > b"\1", any(received[filler:])]
+    bit = received[0] >> 2 & 1
+    differs = [received[0] - 4 * bit != right[0], len(received) != len(right), received[1:2] != right[1:2], received[2:3] != bytes([bit]), any(received[filler:])]
     return 1 + differs.index(True) if any(differs) else 0

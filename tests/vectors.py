@@ -94,14 +94,16 @@ def headers(made):
     lengths = {"00": 1, "01": 4, "10": 32, "11": 128}
     for b in range(256):
         bits = format(b, "08b")  # bit 7 first
-        bad = bits[0] == "1" or bits[5] == "1"
-        made.read_header(b, *([255] if bad else [int(bits[1:3], 2), int(bits[3:5], 2), lengths[bits[6:8]]]))
+        fields = [int(bits[1:3], 2), int(bits[3:5], 2), lengths[bits[6:8]]]
+        made.read_header(b, *([255] if bits[0] == "1" or bits[5] == "1" else fields))
+        made.read_reply_header(b, *([255] if bits[0] == "1" else [*fields, int(bits[5])]))
     codes = {n: code for code, n in lengths.items()}
     for i in [0, 1, 2, 3, 4, 255]:
         for ep in [0, 1, 2, 3, 4, 255]:
             for n in [0, 1, 2, 3, 4, 5, 31, 32, 33, 127, 128, 129, 2**32 + 1, 2**64 - 1]:
-                refused = i > 3 or ep > 3 or n not in codes
-                made.write_header(i, ep, n, 255 if refused else int(f"0{i:02b}{ep:02b}0{codes[n]}", 2))
+                for status in [0, 1]:
+                    refused = i > 3 or ep > 3 or n not in codes
+                    made.write_header(i, ep, n, status, 255 if refused else int(f"0{i:02b}{ep:02b}{status}{codes[n]}", 2))
 
 
 def identifier(made, chained, used):
@@ -117,14 +119,16 @@ def identifiers(made):
             identifier(made, chained, used)
 
 
-# ---- what the gate's run of the program has on standard input: RFC 7693's example in parts, a header each way, and a CDI
+# ---- what the gate's run of the program has on standard input: RFC 7693's example in parts, headers each way, and a CDI
 
 
 def example():
     made = calls.Calls()
     Hash(made, "abc").update(b"ab").update(b"c").finish()
     made.read_header(0x73, 3, 2, 128)
-    made.write_header(3, 2, 128, 0x73)
+    made.write_header(3, 2, 128, 0, 0x73)
+    made.read_reply_header(0x35, 1, 2, 4, 1)
+    made.write_header(1, 2, 4, 1, 0x35)
     identifier(made, True, True)
     return {"stdin": made.input(), "stdout": made.output()}
 

@@ -9,7 +9,7 @@ use lib.Dec.{eqb}
 use lib.ListN.{length, take, drop, length-set, length-drop}
 use lib.Seq.{length-take-le}
 use Rattle.endian.specs.Endian.{word}
-use Rattle.framing.specs.Header.{Reading, good, stop, headerAt, headerByte}
+use Rattle.framing.specs.Header.{Reading, good, stop, headerAt, fieldsAt, headerByte}
 use Rattle.record.specs.Record.{recordAt}
 use Rattle.record.specs.Types.{isType}
 use Rattle.protocol.specs.Commands.{loadIn, isLast}
@@ -278,7 +278,7 @@ lists s z (act l ∷ cs) =
     (lists (o .state) (acted-sized s z (l .room) (l .ram) (l .uds)) cs))
 
 example : Example
-unfolding beginCall gatherCall actCall stateIn memoryOf beginning recordAt gathered gatherRefusal inRange byteStep headerAt headerByte ended acted actRefusal
+unfolding beginCall gatherCall actCall stateIn memoryOf beginning recordAt gathered gatherRefusal inRange byteStep headerAt fieldsAt headerByte ended acted actRefusal
     word nameReply replyHeader putIn
 example = record { begins = λ m old. refl; header = refl; query = refl; reply = λ old. refl; stop = refl }
 

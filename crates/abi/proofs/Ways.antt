@@ -8,7 +8,7 @@ use lib.Dec.{eqb}
 use lib.ListN.{length, getD, drop, set}
 use borrow.Author.Tests.{eq-eqb, ne-eqb}
 use Rattle.endian.specs.Lists.{zeros}
-use Rattle.framing.specs.Header.{good, headerAt, clean, inField, frameId, endpoint, bodyLen}
+use Rattle.framing.specs.Header.{good, isGood, headerAt, fieldsAt, inField, frameId, endpoint, bodyLen}
 use Rattle.framing.proofs.Headers.{good-at, bad-at, body-small}
 use Rattle.head.specs.State.{idle, ended}
 use Rattle.head.specs.Answers.{continues, whole}
@@ -35,7 +35,7 @@ module _ (s : State) (x : ℕ) where
       let l = length-some x id ep len h in
       rw (eq-eqb (s .incoming .got) 0 e, h, h, ne-eqb 1 (len + 1) (λ k. omega arith), neither (eqb ep 2))
 
-  stopped-by : clean x ≡ false → s .incoming .got ≡ 0
+  stopped-by : isGood (headerAt x) ≡ false → s .incoming .got ≡ 0
       → afterGather (afterStep (byteStep (s .incoming) x) s) ≡ gatherTold 22 (memoryOf (ended Stopped (s .config .«ram_len»)))
   unfolding byteStep
   stopped-by c e = rw (eq-eqb (s .incoming .got) 0 e, bad-at x c)
@@ -53,7 +53,7 @@ module _ (s : State) (x : ℕ) where
     kept-by e false q = rw (ne-eqb (s .incoming .got) 0 some, h, eq-eqb ep 2 e, h, eq-eqb ep 2 e, q)
 
     ended-by : (ep ≡ 2 → ⊥) → s .incoming .got ≡ len → afterGather (afterStep (byteStep (s .incoming) x) s) ≡ gatherTold 0 (memoryOf (withIncoming s idle))
-    unfolding byteStep headerAt
+    unfolding byteStep headerAt fieldsAt
     ended-by e q = rw (ne-eqb (s .incoming .got) 0 some, h, ne-eqb ep 2 e, eq-eqb (s .incoming .got) len q)
 
     passed-by : (ep ≡ 2 → ⊥) → (s .incoming .got ≡ len → ⊥)
@@ -65,11 +65,11 @@ module _ (s : State) (x : ℕ) where
 -- ---- of the memory
 
 module _ (n b : List ℕ) (x : ℕ) (numbers : length n ≡ 3) (full : length b ≡ 236) (held : holds b ≡ true) where
-  pub opens : clean x ≡ true → getD b 129 0 ≡ 0 → gatherTold 0 (lent n (set (set b 128 x) 129 1)) ≡ admitted (lent n b) x
+  pub opens : isGood (headerAt x) ≡ true → getD b 129 0 ≡ 0 → gatherTold 0 (lent n (set (set b 128 x) 129 1)) ≡ admitted (lent n b) x
   unfolding admitted stateIn
   opens c e = ap (gatherTold 0) (opened-in n b numbers full held x) ∙ sym (opened-by (stateIn (lent n b)) x _ _ _ (good-at x c) e)
 
-  pub stops : clean x ≡ false → getD b 129 0 ≡ 0 → gatherTold 22 (lent (set (set n 1 0) 2 0) (set (zeros 236) 130 3)) ≡ admitted (lent n b) x
+  pub stops : isGood (headerAt x) ≡ false → getD b 129 0 ≡ 0 → gatherTold 22 (lent (set (set n 1 0) 2 0) (set (zeros 236) 130 3)) ≡ admitted (lent n b) x
   unfolding admitted stateIn
   stops c e = ap (gatherTold 22) (ended-in n numbers) ∙ sym (stopped-by (stateIn (lent n b)) x c e)
 
@@ -82,9 +82,9 @@ module _ (n b : List ℕ) (x : ℕ) (numbers : length n ≡ 3) (full : length b 
     small = let s = body-small (getD b 128 0) in omega arith
 
     good-in : headerAt (getD b 128 0) ≡ good (inField frameId (getD b 128 0)) (inField endpoint (getD b 128 0)) (bodyLen (headerAt (getD b 128 0)))
-    good-in = go (clean (getD b 128 0)) refl
+    good-in = go (isGood (headerAt (getD b 128 0))) refl
       where
-        go : (t : Bool) → clean (getD b 128 0) ≡ t
+        go : (t : Bool) → isGood (headerAt (getD b 128 0)) ≡ t
             → headerAt (getD b 128 0) ≡ good (inField frameId (getD b 128 0)) (inField endpoint (getD b 128 0)) (bodyLen (headerAt (getD b 128 0)))
         go true p = good-at (getD b 128 0) p
         go false p = absurd (let w : bodyLen (headerAt (getD b 128 0)) ≡ 0 = ap bodyLen (bad-at (getD b 128 0) p) in omega arith)

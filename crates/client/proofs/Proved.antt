@@ -10,10 +10,11 @@ use lib.ListN.{length, getD, take, drop, replicate, length-take, length-drop, le
 use lib.Seq.{take-all, take-at, drop-at}
 use borrow.Author.Tests.{eq-eqb, ne-eqb, eqb-true, le-leb, le-ltb}
 use Rattle.endian.proofs.Cases.{impossible}
-use Rattle.framing.specs.Header.{Reading, good, stop, headerAt, headerByte, bodyLen}
-use Rattle.framing.proofs.Headers.{headers, fields-of}
+use Rattle.framing.specs.Header.{Fields, fields, fieldsAt, replyLen, good, headerAt, headerByte}
+use Rattle.framing.specs.Theorems.{bit}
+use Rattle.framing.proofs.Headers.{headers, by-bit, fields-of}
 use Rattle.protocol.specs.Commands.{firmware, blocksFor, isLast}
-use Rattle.protocol.specs.Replies.{written, replyHeader, sent, loadReply, blockReply, digestReply}
+use Rattle.protocol.specs.Replies.{written, replyHeader, sent, statusIn, loadReply, blockReply, digestReply}
 use Rattle.endian.specs.Lists.{padded}
 use Rattle.protocol.proofs.Proved.{header-of}
 use Rattle.client.specs.Answers.{numberOf, differenceNumber}
@@ -86,7 +87,7 @@ body-length program s k l = go (eqb k 0) (s .used)
 
 command-header : (id : ℕ) → id ≤ 3 → headerAt (commandHeader id) ≡ good id firmware 128
 unfolding commandHeader
-command-header id h = header-of id 128 h (omega arith)
+command-header id h = headers .command _ id firmware 128 .1 (header-of id 128 0 h (omega arith) (omega arith))
 
 example : (commandFrame (0xaa ∷ []) 1 (secretOf true (replicate 32 0xbb)) 0 ≡ 0x33 ∷ 0x03 ∷ 1 ∷ 0 ∷ 0 ∷ 0 ∷ 1 ∷ replicate 32 0xbb ++ replicate 90 0)
     × (commandFrame (0xaa ∷ []) 1 (secretOf false (replicate 32 0xbb)) 0 ≡ 0x33 ∷ 0x03 ∷ 1 ∷ replicate 126 0)
@@ -96,18 +97,21 @@ example = (refl, refl, refl)
 
 -- ---- a reply that is expected
 
-header-is : (x : Reading) (id n : ℕ) → headerIs x id n ≡ true → x ≡ good id firmware n
-header-is (good i ep m) id n e =
+fields-are : (i ep m s id n : ℕ) → headerIs (fields i ep m s) id n ≡ true → fields i ep m s ≡ fields id firmware n s
+fields-are i ep m s id n e =
     let b = and-eq-true-iff (eqb i id) (eqb ep firmware && eqb m n) .0 e in
     let d = and-eq-true-iff (eqb ep firmware) (eqb m n) .0 (b .1) in
     let p : i ≡ id = eqb-true i id (b .0) in
     let q : ep ≡ 2 = eqb-true ep firmware (d .0) in
     let r : m ≡ n = eqb-true m n (d .1) in
     rw (p, q, r)
-header-is (stop k) id n e = impossible cc
 
-byte-is : (b id n : ℕ) → b < 2 ^ 8 → headerAt b ≡ good id firmware n → b ≡ written (headerByte id firmware n)
-byte-is b id n l e = ap written (sym (headers .exact b id firmware n .0 (l, e)))
+header-is : (b id n : ℕ) → headerIs (fieldsAt b) id n ≡ true → fieldsAt b ≡ fields id firmware n (bit 2 b)
+header-is b id n =
+    by-bit b (λ (x : Fields). headerIs x id n ≡ true → x ≡ fields id firmware n (bit 2 b)) (λ p e. fields-are _ _ _ _ id n e) (λ h e. impossible cc)
+
+byte-is : (b id n s : ℕ) → b < 2 ^ 8 → headerIs (fieldsAt b) id n ≡ true → s ≡ bit 2 b → b ≡ written (headerByte id firmware n s)
+byte-is b id n s l e t = ap written (sym (headers .exact b id firmware n s .0 (l, rw t (header-is b id n e))))
 
 -- its bytes after the status
 rest-is : (d n : ℕ) (rest : List ℕ) → d + 2 ≤ n → length rest + 2 ≡ n → allZero (drop d rest) ≡ true
@@ -123,17 +127,17 @@ parts x f id (h ∷ []) l e = absurd (let w = e .whole in omega (arith, f .fille
 parts x f id (h ∷ c ∷ []) l e = absurd (let w = e .whole in omega (arith, f .filler))
 parts x f id (h ∷ c ∷ s ∷ rest) l e =
     let w : suc (suc (suc (length rest))) ≡ 1 + x .len = e .whole in
-    let p : h ≡ written (headerByte id firmware (x .len)) = byte-is h id (x .len) l (header-is (headerAt h) id (x .len) (e .header)) in
+    let p : h ≡ written (headerByte id firmware (x .len) s) = byte-is h id (x .len) s l (e .header) (e .status) in
     let t : rest ≡ take (x .digest) rest ++ replicate (x .len - suc (suc (length (take (x .digest) rest)))) 0 =
     rest-is (x .digest) (x .len) rest (f .filler) (omega arith) (e .filler) in
     let k = length-take (x .digest) rest in
     record {
       status = s;
       digest = take (x .digest) rest;
-      status-small = e .status;
+      status-small = (let b = e .status in omega arith);
       digest-length = k ∙ omega (arith, f .filler);
-      bytes = ap (λ (y : ℕ). y ∷ c ∷ s ∷ rest) p ∙ ap (λ (y : ℕ). written (headerByte id firmware (x .len)) ∷ y ∷ s ∷ rest) (e .code)
-          ∙ ap (λ (y : List ℕ). written (headerByte id firmware (x .len)) ∷ x .code ∷ s ∷ y) t;
+      bytes = ap (λ (y : ℕ). y ∷ c ∷ s ∷ rest) p ∙ ap (λ (y : ℕ). written (headerByte id firmware (x .len) s) ∷ y ∷ s ∷ rest) (e .code)
+          ∙ ap (λ (y : List ℕ). written (headerByte id firmware (x .len) s) ∷ x .code ∷ s ∷ y) t;
     }
 
 -- ---- the reply of these parts
@@ -155,15 +159,21 @@ module _ (x : Expected) (f : Fits x) (id : ℕ) (small : id ≤ 3) (r : List ℕ
   filler-after : allZero (drop (x .digest) tail) ≡ true
   filler-after = ap allZero (drop-at (e .digest) _ (x .digest) (e .digest-length)) ∙ are-zeros (x .len - suc (suc (length (e .digest))))
 
-  header-right : headerIs (headerAt (written (headerByte id firmware (x .len)))) id (x .len) ≡ true
-  header-right = rw (header-of id (x .len) small (f .code), eq-eqb id id refl, eq-eqb (x .len) (x .len) refl)
+  abbrev first : ℕ
+  first = written (headerByte id firmware (x .len) (e .status))
+
+  first-is : fieldsAt first ≡ fields id firmware (x .len) (e .status)
+  first-is = header-of id (x .len) (e .status) small (f .code) (e .status-small)
+
+  header-right : headerIs (fieldsAt first) id (x .len) ≡ true
+  header-right = rw (first-is, eq-eqb id id refl, eq-eqb (x .len) (x .len) refl)
 
   is-expected : differenceIn x id r ≡ Nothing
   is-expected =
       let l : suc (suc (suc (length tail))) ≡ 1 + x .len = (let t = tail-length in omega arith) in
       rw (e .bytes)
-      (passed x id (written (headerByte id firmware (x .len)) ∷ x .code ∷ e .status ∷ tail)
-      (record { header = header-right; whole = l; code = refl; status = e .status-small; filler = filler-after }))
+      (passed x id (first ∷ x .code ∷ e .status ∷ tail)
+      (record { header = header-right; whole = l; code = refl; status = headers .status _ _ _ _ _ first-is; filler = filler-after }))
 
   taken : takenAs x id r ≡ takingAs 0 (e .status) (padded 32 (e .digest))
   taken = rw (is-expected, e .bytes, digest-first)
@@ -208,33 +218,51 @@ takes : (n id k : ℕ) (r : List ℕ) → getD r 0 0 < 2 ^ 8 → taking n id k r
 takes n id k r l e = (not-refusal n id k r e, parts (expectedReply n k) (expected-fits n k) id r l (taken-passes n id k r e))
 
 -- a reply that is taken is as long as its header says
-pub taken-whole : (n id k : ℕ) (r : List ℕ) → taking n id k r .number ≡ 0 → length r ≡ 1 + bodyLen (headerAt (getD r 0 0))
+pub taken-whole : (n id k : ℕ) (r : List ℕ) → taking n id k r .number ≡ 0 → length r ≡ 1 + replyLen (fieldsAt (getD r 0 0))
 taken-whole n id k r e =
     let p = taken-passes n id k r e in
-    rw (header-is (headerAt (getD r 0 0)) id (expectedReply n k .len) (p .header)) (p .whole)
+    rw (header-is (getD r 0 0) id (expectedReply n k .len) (p .header)) (p .whole)
 
 compared : (differing 1 1 0 [] ≡ Header)
     × (differing 1 1 0 (0x51 ∷ 0x06 ∷ 2 ∷ 1 ∷ []) ≡ Header)
     × (differing 1 1 0 (0x31 ∷ 0x06 ∷ 2 ∷ 1 ∷ []) ≡ Length)
     × (differing 1 1 0 (0x31 ∷ 0x06 ∷ 2 ∷ 1 ∷ 0 ∷ []) ≡ Code)
     × (differing 1 1 0 (0x31 ∷ 0x04 ∷ 2 ∷ 1 ∷ 0 ∷ []) ≡ Status)
-    × (differing 1 1 0 (0x31 ∷ 0x04 ∷ 1 ∷ 1 ∷ 0 ∷ []) ≡ Filler)
-    × (differing 1 1 0 (0x31 ∷ 0x04 ∷ 1 ∷ 0 ∷ 0 ∷ []) ≡ Nothing)
-unfolding differing refusal differenceIn headerAt
-compared = (refl, refl, refl, refl, refl, refl, refl)
+    × (differing 1 1 0 (0x31 ∷ 0x04 ∷ 0 ∷ 1 ∷ 0 ∷ []) ≡ Filler)
+    × (differing 1 1 0 (0x31 ∷ 0x04 ∷ 0 ∷ 0 ∷ 0 ∷ []) ≡ Nothing)
+    × (differing 1 1 0 (0x35 ∷ 0x04 ∷ 1 ∷ 0 ∷ 0 ∷ []) ≡ Nothing)
+unfolding differing refusal differenceIn fieldsAt
+compared = (refl, refl, refl, refl, refl, refl, refl, refl)
+
+disagreements : (differing 1 1 0 (0x31 ∷ 0x04 ∷ 1 ∷ 0 ∷ 0 ∷ []) ≡ Status) × (differing 1 1 0 (0x35 ∷ 0x04 ∷ 0 ∷ 0 ∷ 0 ∷ []) ≡ Status)
+unfolding differing refusal differenceIn fieldsAt
+disagreements = (refl, refl)
+
+nothing-else : (x : Difference) → differenceNumber x ≡ 0 → x ≡ Nothing
+unfolding difference-of
+nothing-else x e = sym (difference-back x) ∙ ap difference-of e
+
+disagrees : (n id k : ℕ) (r : List ℕ) → refusal n id k ≡ 0 → (bit 2 (getD r 0 0) ≡ statusIn r → ⊥) → taking n id k r ≡ refusedWith 43
+unfolding taking
+disagrees n id k r z d = rw z (go (eqb (differenceNumber (differenceIn (expectedReply n k) id r)) 0) refl)
+  where
+    go : (t : Bool) → eqb (differenceNumber (differenceIn (expectedReply n k) id r)) 0 ≡ t
+        → cond t (takingAs 0 (statusIn r) (digestIn (expectedReply n k) r)) (refusedWith 43) ≡ refusedWith 43
+    go true e = absurd (d (sym (passes (expectedReply n k) id r (nothing-else _ (eqb-true _ _ e)) .status)))
+    go false e = refl
 
 -- ---- the replies of `protocol`
 
 -- the header of a reply to a command has the command's ID
-reply-header : (id n : ℕ) → id ≤ 3 → replyHeader (commandHeader id) n ≡ written (headerByte id firmware n)
+reply-header : (id n s : ℕ) → id ≤ 3 → replyHeader (commandHeader id) n s ≡ written (headerByte id firmware n s)
 unfolding replyHeader
-reply-header id n h = ap (λ (i : ℕ). written (headerByte i firmware n)) (fields-of (commandHeader id) id firmware 128 (command-header id h) .0)
+reply-header id n s h = ap (λ (i : ℕ). written (headerByte i firmware n s)) (fields-of (commandHeader id) id firmware 128 (command-header id h) .0)
 
 to-load : (n id : ℕ) (g : Bool) → refusal n id 0 ≡ 0
     → taking n id 0 (sent (loadReply (commandHeader id) g)) ≡ takingAs 0 (cond g 0 1) (replicate 32 0)
 unfolding loadReply
 to-load n id g z =
-    let h = reply-header id 4 (given n id 0 z .id-small) in
+    let h = reply-header id 4 (cond g 0 1) (given n id 0 z .id-small) in
     gives n id 0 (sent (loadReply (commandHeader id) g)) z
     (record { status = cond g 0 1; digest = []; status-small = status-of g; digest-length = refl; bytes = ap (λ (x : ℕ). x ∷ 0x04 ∷ cond g 0 1 ∷ 0 ∷ 0 ∷ []) h })
   where
@@ -251,9 +279,13 @@ to-block : (n id k : ℕ) → refusal n id k ≡ 0 → 1 ≤ k → isLast n (k -
     → taking n id k (sent (blockReply (commandHeader id))) ≡ takingAs 0 0 (replicate 32 0)
 unfolding blockReply
 to-block n id k z l e =
-    let h = reply-header id 4 (given n id k z .id-small) in
+    let h = reply-header id 4 0 (given n id k z .id-small) in
     gives-as n id k (sent (blockReply (commandHeader id))) _ (to-block-is n k l false e) z
     (record { status = 0; digest = []; status-small = omega arith; digest-length = refl; bytes = ap (λ (x : ℕ). x ∷ 0x06 ∷ 0 ∷ 0 ∷ 0 ∷ []) h })
+
+-- two bytes and the rest filled up are all of it filled up
+two-more : (x y : ℕ) (l : List ℕ) → x ∷ y ∷ padded 126 l ≡ padded 128 (x ∷ y ∷ l)
+two-more x y l = let e : 126 - length l ≡ 128 - suc (suc (length l)) = omega arith in ap (λ (i : ℕ). x ∷ y ∷ l ++ replicate i 0) e
 
 to-last : (n id k : ℕ) (digest : List ℕ) → refusal n id k ≡ 0 → 1 ≤ k → isLast n (k - 1) ≡ true → length digest ≡ 32
     → taking n id k (sent (digestReply (commandHeader id) digest)) ≡ takingAs 0 0 digest
@@ -263,11 +295,11 @@ to-last n id k digest z l e s =
     (record { status = 0; digest = digest; status-small = omega arith; digest-length = s; bytes = as-sent })
     ∙ ap (λ (d : List ℕ). takingAs 0 0 d) whole
   where
-    as-sent : sent (digestReply (commandHeader id) digest) ≡ written (headerByte id firmware 128) ∷ padded 128 (0x07 ∷ 0 ∷ digest)
+    as-sent : sent (digestReply (commandHeader id) digest) ≡ written (headerByte id firmware 128 0) ∷ padded 128 (0x07 ∷ 0 ∷ digest)
     as-sent =
-        let f = filled-length 128 (0x07 ∷ 0 ∷ digest) (omega arith) in
-        ap (λ (h : ℕ). h ∷ take 128 (padded 128 (0x07 ∷ 0 ∷ digest))) (reply-header id 128 (given n id k z .id-small))
-        ∙ ap (λ (y : List ℕ). written (headerByte id firmware 128) ∷ y) (take-all 128 (padded 128 (0x07 ∷ 0 ∷ digest)) (omega arith))
+        let f = filled-length 126 digest (omega arith) in
+        ap (λ (h : ℕ). h ∷ take 128 (0x07 ∷ 0 ∷ padded 126 digest)) (reply-header id 128 0 (given n id k z .id-small))
+        ∙ ap (λ (y : List ℕ). written (headerByte id firmware 128 0) ∷ y) (take-all 128 (0x07 ∷ 0 ∷ padded 126 digest) (omega arith) ∙ two-more 0x07 0 digest)
 
     whole : padded 32 digest ≡ digest
     whole = rw s (append-nil digest)
@@ -284,8 +316,10 @@ client =
       differences = λ x y e. sym (difference-back x) ∙ ap difference-of e ∙ difference-back y;
       differs = differs;
       compared = compared;
+      disagreements = disagreements;
       takes = λ n id k r l. (takes n id k r l, λ e. ap (λ (t : Taking). t .number) (gives n id k r (e .0) (e .1)));
       gives = gives;
+      disagrees = disagrees;
       to-load = to-load;
       to-block = to-block;
       to-last = to-last;

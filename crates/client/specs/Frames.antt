@@ -28,8 +28,9 @@ refusal n id k =
 abbrev pub secretOf : Bool → List ℕ → Secret
 secretOf used uss = record { used = used; uss = uss }
 
+-- a command has no status: bit 2 is zero
 unfoldable pub commandHeader : ℕ → ℕ
-commandHeader id = written (headerByte id firmware 128)
+commandHeader id = written (headerByte id firmware 128 0)
 
 -- the four bytes of a size
 abbrev pub sizeBytes : ℕ → List ℕ

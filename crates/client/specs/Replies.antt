@@ -1,11 +1,12 @@
--- The head's replies as the server takes them: change request 1, "The server's half".
+-- The head's replies as the server takes them: change request 1, "The server's half", with bit 2 as change request 5 has it.
 use Prim.Native.Nat.{ℕ, _+_, _-_}
 use mathlib.Core.Bool.{Bool, true, false, not, cond, _&&_}
 use mathlib.Core.List.{List, [], _∷_}
-use lib.Dec.{eqb, ltb}
+use lib.Dec.{eqb}
 use lib.ListN.{length, getD, take, drop}
-use Rattle.framing.specs.Header.{Reading, good, stop, headerAt}
+use Rattle.framing.specs.Header.{Fields, fields, bad, fieldsAt, status, inField}
 use Rattle.protocol.specs.Commands.{firmware, isLast}
+use Rattle.protocol.specs.Replies.{codeIn, statusIn}
 use Rattle.endian.specs.Lists.{padded, zeros}
 use Rattle.client.specs.Answers.{numberOf, differenceNumber}
 use Rattle.client.specs.Frames.{refusal}
@@ -21,23 +22,20 @@ expectedReply n k =
     (cond (isLast n (k - 1)) (record { code = 0x07; len = 128; digest = 32 })
     (record { code = 0x06; len = 4; digest = 0 }))
 
--- bits 7 and 2 zero, the expected ID, endpoint 2 and the expected length
-abbrev pub headerIs : Reading → ℕ → ℕ → Bool
-headerIs (good i ep n) id len = eqb i id && (eqb ep firmware && eqb n len)
-headerIs (stop k) id len = false
+-- bit 7 zero, the expected ID, endpoint 2 and the expected length
+abbrev pub headerIs : Fields → ℕ → ℕ → Bool
+headerIs (fields i ep n s) id len = eqb i id && (eqb ep firmware && eqb n len)
+headerIs bad id len = false
+
+-- the status byte and bit 2 of the header are the same, so that the status is 0 or 1
+abbrev pub statusAgrees : ℕ → ℕ → Bool
+statusAgrees header s = eqb s (inField status header)
 
 abbrev pub allZero : List ℕ → Bool
 allZero [] = true
 allZero (b ∷ bs) = eqb b 0 && allZero bs
 
--- a reply is header, code, status, the digest if it is the last one's, and filler
-abbrev pub codeIn : List ℕ → ℕ
-codeIn r = getD r 1 0
-
-abbrev pub statusIn : List ℕ → ℕ
-statusIn r = getD r 2 0
-
--- zeros where no digest is expected
+-- after header, code and status come the digest, if it is the last reply, and filler; zeros where no digest is expected
 abbrev pub digestIn : Expected → List ℕ → List ℕ
 digestIn x r = padded 32 (take (x .digest) (drop 3 r))
 
@@ -47,13 +45,13 @@ fillerIn x r = drop (x .digest) (drop 3 r)
 -- the first test that a reply fails; one without a byte fails that of the header, since 0 is a header of endpoint 0
 unfoldable pub differenceIn : Expected → ℕ → List ℕ → Difference
 differenceIn x id r =
-    cond (not (headerIs (headerAt (getD r 0 0)) id (x .len))) Header
+    cond (not (headerIs (fieldsAt (getD r 0 0)) id (x .len))) Header
     (cond (not (eqb (length r) (1 + x .len))) Length
     (cond (not (eqb (codeIn r) (x .code))) Code
-    (cond (ltb 1 (statusIn r)) Status
+    (cond (not (statusAgrees (getD r 0 0) (statusIn r))) Status
     (cond (not (allZero (fillerIn x r))) Filler Nothing))))
 
--- then it is one whole frame with the expected header and code, a status of 0 or 1, and zero filler
+-- then it is one whole frame with the expected header and code, a status of 0 or 1 that its header tells too, and zero filler
 abbrev pub isExpected : Expected → ℕ → List ℕ → Bool
 isExpected x id r = eqb (differenceNumber (differenceIn x id r)) 0
 

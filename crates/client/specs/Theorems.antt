@@ -6,25 +6,27 @@ use mathlib.Core.Bool.{Bool, true, false, cond}
 use mathlib.Core.List.{List, [], _∷_, _++_}
 use lib.ListN.{length, getD, replicate}
 use Rattle.framing.specs.Header.{good, headerAt, headerByte}
+use Rattle.framing.specs.Theorems.{bit}
 use Rattle.protocol.specs.Commands.{firmware, blocksFor, isLast}
-use Rattle.protocol.specs.Replies.{written, sent, loadReply, blockReply, digestReply}
+use Rattle.protocol.specs.Replies.{written, sent, statusIn, loadReply, blockReply, digestReply}
 use Rattle.endian.specs.Lists.{padded, zeros}
 use Rattle.client.specs.Answers.{numberOf, differenceNumber}
 use Rattle.client.specs.Frames.{refusal, secretOf, commandHeader, commandFrame}
-use Rattle.client.specs.Replies.{expectedReply, takingAs, taking, differing}
+use Rattle.client.specs.Replies.{expectedReply, takingAs, refusedWith, taking, differing}
 use Rattle.client.specs.declared.Answer.{Answer}
 use Rattle.client.specs.declared.Difference.{Difference}
 use Rattle.client.specs.declared.Difference.the-variants.{Nothing, Header, Length, Code, Status, Filler}
 use Rattle.client.specs.declared.Secret.{Secret}
 use Rattle.client.specs.declared.replies.Expected.{Expected}
 
--- r is the expected reply, written from its parts: the header, the code, a status of 0 or 1, a digest if it has one, and zeros
+-- r is the expected reply, written from its parts: the header, the code, a status of 0 or 1, which the header has too, a digest if it has one,
+-- and zeros
 pub record Expects (x : Expected) (id : ℕ) (r : List ℕ) : Type 0 where
   pub status : ℕ
   pub digest : List ℕ
   pub status-small : status ≤ 1
   pub digest-length : length digest ≡ x .digest
-  pub bytes : r ≡ written (headerByte id firmware (x .len)) ∷ padded (x .len) (x .code ∷ status ∷ digest)
+  pub bytes : r ≡ written (headerByte id firmware (x .len) status) ∷ padded (x .len) (x .code ∷ status ∷ digest)
 
 pub record Client : Type 0 where
   -- the number settles the answer
@@ -43,7 +45,9 @@ pub record Client : Type 0 where
       → (taking n id k r .number ≡ 0) ↔ ((refusal n id k ≡ 0) × Expects (expectedReply n k) id r)
   pub gives : (n id k : ℕ) (r : List ℕ) → refusal n id k ≡ 0 → (e : Expects (expectedReply n k) id r)
       → taking n id k r ≡ takingAs 0 (e .status) (padded 32 (e .digest))
-  -- so are the replies that `protocol` writes to these frames
+  -- a reply whose bit 2 is not its status byte is refused with 43, whichever of the two is set
+  pub disagrees : (n id k : ℕ) (r : List ℕ) → refusal n id k ≡ 0 → (bit 2 (getD r 0 0) ≡ statusIn r → ⊥) → taking n id k r ≡ refusedWith 43
+  -- the replies that `protocol` writes to these frames are taken
   pub to-load : (n id : ℕ) (good : Bool) → refusal n id 0 ≡ 0
       → taking n id 0 (sent (loadReply (commandHeader id) good)) ≡ takingAs 0 (cond good 0 1) (zeros 32)
   pub to-block : (n id k : ℕ) → refusal n id k ≡ 0 → 1 ≤ k → isLast n (k - 1) ≡ false
@@ -60,5 +64,8 @@ pub record Client : Type 0 where
       × (differing 1 1 0 (0x31 ∷ 0x06 ∷ 2 ∷ 1 ∷ []) ≡ Length)
       × (differing 1 1 0 (0x31 ∷ 0x06 ∷ 2 ∷ 1 ∷ 0 ∷ []) ≡ Code)
       × (differing 1 1 0 (0x31 ∷ 0x04 ∷ 2 ∷ 1 ∷ 0 ∷ []) ≡ Status)
-      × (differing 1 1 0 (0x31 ∷ 0x04 ∷ 1 ∷ 1 ∷ 0 ∷ []) ≡ Filler)
-      × (differing 1 1 0 (0x31 ∷ 0x04 ∷ 1 ∷ 0 ∷ 0 ∷ []) ≡ Nothing)
+      × (differing 1 1 0 (0x31 ∷ 0x04 ∷ 0 ∷ 1 ∷ 0 ∷ []) ≡ Filler)
+      × (differing 1 1 0 (0x31 ∷ 0x04 ∷ 0 ∷ 0 ∷ 0 ∷ []) ≡ Nothing)
+      × (differing 1 1 0 (0x35 ∷ 0x04 ∷ 1 ∷ 0 ∷ 0 ∷ []) ≡ Nothing)
+  -- status 1 in the byte alone, and in the header alone
+  pub disagreements : (differing 1 1 0 (0x31 ∷ 0x04 ∷ 1 ∷ 0 ∷ 0 ∷ []) ≡ Status) × (differing 1 1 0 (0x35 ∷ 0x04 ∷ 0 ∷ 0 ∷ 0 ∷ []) ≡ Status)

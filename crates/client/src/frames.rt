@@ -12,7 +12,7 @@ use super::Secret;
 fn header(id: u8) -> u8
     ensures { λ r. ⌜ r ≡ commandHeader id ⌝ }
 {
-    match framing::write_header(id, 2, 128) {
+    match framing::write_header(id, 2, 128, framing::Status::Good) {
         framing::Written::Byte(b) => b,
         framing::Written::Refused => 0,
     }

@@ -36,13 +36,13 @@ pub enum Answer {
 pub enum Difference {
     // It is the expected one.
     Nothing,
-    // Bit 7 or bit 2 of the header is set, or it has another ID, endpoint or body length; or there is no byte at all.
+    // Bit 7 of the header is set, or it has another ID, endpoint or body length; or there is no byte at all.
     Header,
     // There are more bytes than header and body, or fewer.
     Length,
     // Another code than the frame asks for.
     Code,
-    // A status over 1.
+    // A status byte that is not bit 2 of the header.
     Status,
     // A byte behind the status, or behind the digest of the last reply, that is not zero.
     Filler,

@@ -2,9 +2,9 @@
 ghost use mathlib.Core.Path.{_≡_};
 ghost use Prim.Native.Nat.{_+_, _≤_};
 ghost use lib.ListN.{length};
-ghost use Rattle.framing.specs.Header.{headerAt};
+ghost use Rattle.framing.specs.Header.{fieldsAt};
 ghost use Rattle.client.specs.Answers.{numberOf};
-ghost use Rattle.client.specs.Replies.{expectedReply, headerIs, allZero, differenceIn, digestIn, takingOf, refusedWith};
+ghost use Rattle.client.specs.Replies.{expectedReply, headerIs, statusAgrees, allZero, differenceIn, digestIn, takingOf, refusedWith};
 use super::Answer;
 use super::Difference;
 use super::Taken;
@@ -45,16 +45,24 @@ pub fn reply_to(size: u32, k: u32) -> Expected
 
 // Whether a header is that of a reply with this frame ID and body length.
 fn header_is(b: u8, id: u8, len: usize) -> bool
-    ensures { λ r. ⌜ r ≡ headerIs (headerAt b) id len ⌝ }
+    ensures { λ r. ⌜ r ≡ headerIs (fieldsAt b) id len ⌝ }
 {
-    match framing::read_header(b) {
-        framing::Header::Bad => false,
-        framing::Header::Good {
+    match framing::read_reply_header(b) {
+        framing::ReplyHeader::Bad => false,
+        framing::ReplyHeader::Good {
             id: i,
             endpoint,
             len: n,
+            status: _,
         } => i == id && (endpoint == 2 && n as usize == len),
     }
+}
+
+// Whether a status byte is the status that the header has.
+fn status_agrees(header: u8, byte: u8) -> bool
+    ensures { λ r. ⌜ r ≡ statusAgrees header byte ⌝ }
+{
+    byte == framing::status_number(framing::status_in(header))
 }
 
 // Whether every byte is zero.
@@ -88,7 +96,7 @@ pub fn difference_in(x: Expected, id: u8, reply: &[u8]) -> Difference
     if reply[1] != x.code {
         return Difference::Code;
     }
-    if 1 < reply[2] {
+    if !status_agrees(reply[0], reply[2]) {
         return Difference::Status;
     }
     if !all_zero(&reply[3 + x.digest..]) {

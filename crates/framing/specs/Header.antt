@@ -1,7 +1,8 @@
--- The header byte of a frame: document 01, "Header byte", which the TKey Framing Protocol decides.
--- One table says where each field stands and one list which length each code means. Reading and writing are both made of them.
+-- The header byte of a frame: document 01, "Header byte", which the TKey Framing Protocol decides; bit 2 as change request 5 has it.
+-- One table says where each field stands and one list which length each code means. Reading and writing are both made of them, for commands
+-- and replies alike.
 use Prim.Native.Nat.{ℕ, suc, _+_, _*_, _/_, _%_, _^_}
-use mathlib.Core.Bool.{Bool, cond, _&&_}
+use mathlib.Core.Bool.{Bool, true, false, cond, _&&_}
 use mathlib.Core.List.{List, [], _∷_}
 use lib.Dec.{eqb, ltb}
 use lib.ListN.{getD}
@@ -23,7 +24,7 @@ frameId = record { low = 5; width = 2 }
 abbrev pub endpoint : Field
 endpoint = record { low = 3; width = 2 }
 
--- bit 2, which is zero in a command
+-- bit 2: the status of a reply, 0 good and 1 bad; zero in a command, and in a reply without a status
 abbrev pub status : Field
 status = record { low = 2; width = 1 }
 
@@ -59,27 +60,51 @@ lengthOf code = getD lengths code 0
 abbrev pub codeOf : ℕ → ℕ
 codeOf n = indexOf n lengths
 
--- bits 7 and 2 are zero
-abbrev pub clean : ℕ → Bool
-clean b = eqb (inField reserved b) 0 && eqb (inField status b) 0
+-- ---- reading
 
--- what reading a header byte reports
+-- what a header byte says, of a command or a reply
+pub data Fields : Type 0 where
+  -- ID, endpoint, the body's length and the status
+  fields : ℕ → ℕ → ℕ → ℕ → Fields
+  -- bit 7 is set
+  bad : Fields
+
+unfoldable pub fieldsAt : ℕ → Fields
+fieldsAt b =
+    cond (eqb (inField reserved b) 0)
+    (fields (inField frameId b) (inField endpoint b) (lengthOf (inField lengthCode b)) (inField status b))
+    bad
+
+-- the length of a reply's body by its header; 0 where bit 7 is set
+abbrev pub replyLen : Fields → ℕ
+replyLen (fields id ep n s) = n
+replyLen bad = 0
+
+-- what reading the header of a command reports
 pub data Reading : Type 0 where
   -- a good header's ID, endpoint and length
   good : ℕ → ℕ → ℕ → Reading
   -- the number of the stop that a bad header is
   stop : ℕ → Reading
 
-unfoldable pub headerAt : ℕ → Reading
-headerAt b =
-    cond (clean b)
-    (good (inField frameId b) (inField endpoint b) (lengthOf (inField lengthCode b)))
-    (stop 22)
+-- a command's bit 2 must be zero too
+abbrev pub asCommand : Fields → Reading
+asCommand (fields id ep n s) = cond (eqb s 0) (good id ep n) (stop 22)
+asCommand bad = stop 22
 
--- the body's length that a header gives; 0 for a bad one
+unfoldable pub headerAt : ℕ → Reading
+headerAt b = asCommand (fieldsAt b)
+
+abbrev pub isGood : Reading → Bool
+isGood (good id ep n) = true
+isGood (stop k) = false
+
+-- the body's length that a command's header gives; 0 for a bad one
 abbrev pub bodyLen : Reading → ℕ
 bodyLen (good id ep n) = n
 bodyLen (stop k) = 0
+
+-- ---- writing
 
 -- what writing a header reports
 pub data Writing : Type 0 where
@@ -87,8 +112,9 @@ pub data Writing : Type 0 where
   -- the number of the refusal
   refused : ℕ → Writing
 
-unfoldable pub headerByte : ℕ → ℕ → ℕ → Writing
-headerByte id ep n =
-    cond (fits frameId id && (fits endpoint ep && fits lengthCode (codeOf n)))
-    (byte (placed frameId id + placed endpoint ep + placed lengthCode (codeOf n)))
+-- by ID, endpoint, the body's length and status
+unfoldable pub headerByte : ℕ → ℕ → ℕ → ℕ → Writing
+headerByte id ep n s =
+    cond (fits frameId id && (fits endpoint ep && (fits lengthCode (codeOf n) && fits status s)))
+    (byte (placed frameId id + placed endpoint ep + placed status s + placed lengthCode (codeOf n)))
     (refused 11)

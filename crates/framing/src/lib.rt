@@ -1,15 +1,29 @@
 // The header byte of a frame (TKey Framing Protocol), read and written.
-// Document 01, "Header byte", in the terms of specs/Header.antt.
+// Document 01, "Header byte", and change request 5 in the terms of specs/Header.antt.
 ghost use mathlib.Core.Path.{_≡_};
 ghost use Prim.Native.Nat.{_<_};
-ghost use Rattle.framing.specs.Header.{frameId, endpoint, inField, clean, headerAt, headerByte, lengthOf, codeOf, bodyLen};
-ghost use Rattle.framing.specs.Answers.{readingOf, writingOf};
+ghost use Rattle.framing.specs.Header.{frameId, endpoint, status, inField, fieldsAt, replyLen, headerAt, headerByte, lengthOf, codeOf, isGood, bodyLen};
+ghost use Rattle.framing.specs.Answers.{statusNumber, readingOf, fieldsOf, writingOf};
 
-// What a header byte says.
+// The status of a reply: whether the head has done what the command asked for. A command has status Good.
+pub enum Status {
+    Good,
+    Bad,
+}
+
+// What the header of a command says.
 pub enum Header {
     // Bits 7 and 2 are zero: the frame's ID, its endpoint, and how many bytes its body has.
     Good { id: u8, endpoint: u8, len: u8 },
     // Bit 7 or bit 2 is set.
+    Bad,
+}
+
+// What the header of a reply says.
+pub enum ReplyHeader {
+    // Bit 7 is zero; bit 2 is the status.
+    Good { id: u8, endpoint: u8, len: u8, status: Status },
+    // Bit 7 is set.
     Bad,
 }
 
@@ -60,9 +74,29 @@ pub fn endpoint(b: u8) -> u8
     b / 8 % 4
 }
 
-// Whether a header is good: its bits 7 and 2 are zero.
+// The status in the header of a reply.
+pub fn status_in(b: u8) -> Status
+    ensures { λ r. ⌜ statusNumber r ≡ inField status b ⌝ }
+{
+    if b / 4 % 2 == 0 {
+        return Status::Good;
+    }
+    Status::Bad
+}
+
+// The bit that stands for a status; a reply's status byte is the same number.
+pub fn status_number(s: Status) -> u8
+    ensures { λ r. ⌜ r ≡ statusNumber s ⌝ }
+{
+    match s {
+        Status::Good => 0,
+        Status::Bad => 1,
+    }
+}
+
+// Whether a command's header is good: its bits 7 and 2 are zero.
 pub fn is_good(b: u8) -> bool
-    ensures { λ r. ⌜ r ≡ clean b ⌝ }
+    ensures { λ r. ⌜ r ≡ isGood (headerAt b) ⌝ }
 {
     if b / 128 % 2 != 0 {
         return false;
@@ -70,7 +104,7 @@ pub fn is_good(b: u8) -> bool
     b / 4 % 2 == 0
 }
 
-// Reads a header byte.
+// Reads the header of a command.
 pub fn read_header(b: u8) -> Header
     ensures { λ r. ⌜ readingOf r ≡ headerAt b ⌝ }
 {
@@ -84,7 +118,22 @@ pub fn read_header(b: u8) -> Header
     }
 }
 
-// The length of the body that a header gives; 0 for a bad header.
+// Reads the header of a reply.
+pub fn read_reply_header(b: u8) -> ReplyHeader
+    ensures { λ r. ⌜ fieldsOf r ≡ fieldsAt b ⌝ }
+{
+    if b / 128 % 2 != 0 {
+        return ReplyHeader::Bad;
+    }
+    ReplyHeader::Good {
+        id: frame_id(b),
+        endpoint: endpoint(b),
+        len: body_length(b % 4),
+        status: status_in(b),
+    }
+}
+
+// The length of the body that a command's header gives; 0 for a bad one.
 pub fn body_len(header: u8) -> u8
     ensures { λ r. ⌜ r ≡ bodyLen (headerAt header) ⌝ }
 {
@@ -94,9 +143,19 @@ pub fn body_len(header: u8) -> u8
     body_length(header % 4)
 }
 
-// Makes a header byte, with bits 7 and 2 zero.
-pub fn write_header(id: u8, endpoint: u8, len: usize) -> Written
-    ensures { λ r. ⌜ writingOf r ≡ headerByte id endpoint len ⌝ }
+// The length of the body that a reply's header gives; 0 for a bad one.
+pub fn reply_len(header: u8) -> u8
+    ensures { λ r. ⌜ r ≡ replyLen (fieldsAt header) ⌝ }
+{
+    if header / 128 % 2 != 0 {
+        return 0;
+    }
+    body_length(header % 4)
+}
+
+// Makes a header byte, with bit 7 zero and the status as bit 2.
+pub fn write_header(id: u8, endpoint: u8, len: usize, status: Status) -> Written
+    ensures { λ r. ⌜ writingOf r ≡ headerByte id endpoint len (statusNumber status) ⌝ }
 {
     let code = length_code(len);
     if 3 < id {
@@ -108,5 +167,5 @@ pub fn write_header(id: u8, endpoint: u8, len: usize) -> Written
     if 3 < code {
         return Written::Refused;
     }
-    Written::Byte(id * 32 + endpoint * 8 + code)
+    Written::Byte(id * 32 + endpoint * 8 + status_number(status) * 4 + code)
 }

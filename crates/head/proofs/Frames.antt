@@ -9,7 +9,7 @@ use lib.Dec.{eqb}
 use lib.ListN.{length, getD, set, drop, drop-of-length-le}
 use lib.Seq.{drop-cons, paste, paste-zero, paste-suc}
 use borrow.Author.Tests.{eq-eqb, ne-eqb, le-leb}
-use Rattle.framing.specs.Header.{good, headerAt, bodyLen}
+use Rattle.framing.specs.Header.{good, headerAt, fieldsAt, bodyLen}
 use Rattle.head.specs.State.{isWhole, incomingOk, idle}
 use Rattle.head.specs.Answers.{continues, whole, Gathering}
 use Rattle.head.specs.Gather.{Step, taken, withByte, byteStep, gatherRefusal, withIncoming, afterStep, gathered}
@@ -80,7 +80,7 @@ module _ (s : State) (h id ep n : ℕ) (body : List ℕ) (free : gatherRefusal s
   }
 
   closes : (k : ℕ) → afterStep (taken (cond (not (eqb ep 2)) idle (partly n))) (after k) ≡ closing
-  unfolding headerAt
+  unfolding headerAt fieldsAt
   closes k = go (eqb ep 2) refl
     where
       go : (t : Bool) → eqb ep 2 ≡ t

@@ -5,7 +5,7 @@ use mathlib.Core.Path.{_≡_, refl, ap}
 use mathlib.Core.List.{List, [], _∷_, _++_}
 use lib.ListN.{length, take, replicate}
 use lib.Seq.{take-append-add}
-use Rattle.framing.specs.Header.{headerAt, headerByte}
+use Rattle.framing.specs.Header.{headerAt, fieldsAt, headerByte}
 use Rattle.endian.specs.Endian.{word, firstBytes}
 use Rattle.rfc7693.specs.Rfc7693.{rotr, words, iv, sigma, added, xorRotated, G, workVector, round, rounds, F, input, blockAt, blockCount, leading, compressions, compressed, initial, blake2s}
 use Rattle.protocol.specs.Commands.{loadIn}
@@ -19,7 +19,7 @@ use Rattle.head.specs.Answers.{Report, Result}
 use Rattle.head.specs.Start.{starting, decided}
 use Rattle.head.specs.Begin.{Slot, programIn, fits, fromFlash, beginning}
 use Rattle.head.specs.Gather.{byteStep, gatherRefusal, gathered}
-use Rattle.head.specs.Act.{actRefusal, acted}
+use Rattle.head.specs.Act.{loadAnswer, actRefusal, acted}
 use Rattle.head.specs.KnownAnswers.{digestOfAbc, digestOfZero, flashed, BeginTypes, Begins, KnownAnswers}
 use Rattle.head.specs.declared.Phase.the-variants as phase
 use Rattle.head.specs.declared.Config.{Config}
@@ -92,7 +92,7 @@ begins = record {
 }
 
 pub known-answers : KnownAnswers
-unfolding loadIn word recordAt nameReply loadReply blockReply replyHeader headerByte beginning headerAt byteStep inRange gatherRefusal gathered actRefusal acted ended
+unfolding loadIn word recordAt nameReply loadReply blockReply replyHeader headerByte beginning headerAt fieldsAt byteStep inRange gatherRefusal gathered actRefusal acted loadAnswer putIn ended
 known-answers = record {
   flags = (refl, refl, refl, refl, refl, refl);
   types = (refl, refl, refl, refl, refl, refl, refl, refl, refl);
@@ -107,6 +107,7 @@ known-answers = record {
   begins = begins;
   gathering = (refl, refl, refl);
   acting = (refl, refl, refl, refl, refl, refl);
+  none-loaded = (refl, refl, refl, refl);
   foreign = (refl, refl);
   after-stop = (refl, refl, refl);
   ends = λ p m. (refl, refl, refl, refl, refl, refl, refl);

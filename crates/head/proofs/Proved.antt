@@ -1,7 +1,7 @@
 -- The theorem of specs/Theorems.antt. Each claim about a call is shown for each way that it can go (`by-begin`, `by-gather`, `by-act`).
 use Prim.Native.Nat.{ℕ, _+_, _≤_}
 use mathlib.Core.Bool.{Bool, true, false, cond}
-use mathlib.Core.Path.{_≡_, refl, sym, ap, _∙_}
+use mathlib.Core.Path.{_≡_, refl, sym, ap, subst, _∙_}
 use mathlib.Core.Logic.{_⊎_, inl, inr, ⊎-elim}
 use mathlib.Core.List.{List, []}
 use native.Mathlib.Omega.{arith}
@@ -23,6 +23,8 @@ use Rattle.head.specs.Theorems.{HeadTheorems, withUds, withCdi, changed}
 use Rattle.head.proofs.Ranges.{never, by-test, fit-facts, range-facts, in-range, ram-ok}
 use Rattle.head.proofs.Admitted.{act-admitted}
 use Rattle.head.proofs.Ways.{begunWith, by-secret, begin-called, by-begin, by-gather, Writes, called, by-words, act-called, by-act}
+use Rattle.protocol.specs.Theorems.{StatusTold, IsReply}
+use Rattle.protocol.specs.Theorems as theorems
 use Rattle.protocol.proofs.Proved.{protocol}
 use Rattle.protocol.specs.Replies.{sent, digestReply, putIn}
 use Rattle.protocol.specs.declared.Reply.{Reply}
@@ -266,8 +268,8 @@ module _ (s : State) (room ram uds : List ℕ) where
       (record {
         refused = λ k e n. omega arith;
         halt = λ k n. omega arith;
-        reply = λ r f. let l = f .0 in omega arith;
-        progress = λ r f p ram1 o v y. let l = f .0 in omega arith;
+        reply = λ r f. let l = protocol .lengths r f .0 in omega arith;
+        progress = λ r f p ram1 o v y. let l = protocol .lengths r f .0 in omega arith;
         start = λ d ram1 y. omega arith;
         fail = λ d ram1 y. omega arith;
       })
@@ -281,7 +283,7 @@ module _ (s : State) (room ram uds : List ℕ) where
 
   after-digest : (h : ℕ) (d : List ℕ) → drop 129 (putIn room (sent (digestReply h d))) ≡ drop 129 room
   unfolding digestReply
-  after-digest h d = after-reply (digestReply h d) 129 (protocol .lengths h [] d true .4 .1)
+  after-digest h d = after-reply (digestReply h d) 129 (protocol .lengths _ (theorems.digest h d) .1)
 
   beyond : Beyond out
   unfolding starting
@@ -290,10 +292,34 @@ module _ (s : State) (room ram uds : List ℕ) where
       (record {
         refused = λ k e n. refl;
         halt = λ k n. refl;
-        reply = λ r f. after-reply r (r .len + 1) (f .1);
-        progress = λ r f p ram1 o v y. after-reply r (r .len + 1) (f .1);
+        reply = λ r f. after-reply r (r .len + 1) (protocol .lengths r f .1);
+        progress = λ r f p ram1 o v y. after-reply r (r .len + 1) (protocol .lengths r f .1);
         start = λ d ram1 y. after-digest (s .incoming .header) d;
         fail = λ d ram1 y. after-digest (s .incoming .header) d;
+      })
+
+  abbrev Told : Outcome → Type 0
+  Told o = 1 ≤ o .reply → StatusTold (take (o .reply) (o .room))
+
+  told-by : (r : Reply) → IsReply r → (n : ℕ) → length (sent r) ≡ n → StatusTold (take n (putIn room (sent r)))
+  unfolding putIn
+  told-by r i n e = subst StatusTold (sym (take-at (sent r) (drop (length (sent r)) room) n e)) (protocol .told r i)
+
+  digest-told : (h : ℕ) (d : List ℕ) → StatusTold (take 129 (putIn room (sent (digestReply h d))))
+  unfolding digestReply
+  digest-told h d = told-by (digestReply h d) (theorems.digest h d) 129 (protocol .lengths _ (theorems.digest h d) .1)
+
+  told : Told out
+  unfolding starting
+  told =
+      by-act s room ram uds Told
+      (record {
+        refused = λ k e n z. absurd (omega arith);
+        halt = λ k n z. absurd (omega arith);
+        reply = λ r f z. told-by r f (r .len + 1) (protocol .lengths r f .1);
+        progress = λ r f p ram1 o v y z. told-by r f (r .len + 1) (protocol .lengths r f .1);
+        start = λ d ram1 y z. digest-told (s .incoming .header) d;
+        fail = λ d ram1 y z. digest-told (s .incoming .header) d;
       })
 
   goes-on : out .report ≡ continues
@@ -708,6 +734,7 @@ head-theorems = record {
     kept = kept s room ram uds;
     fits = fits s room ram uds;
     beyond = beyond s room ram uds;
+    told = told s room ram uds;
     beyond-block = beyond-block s room ram uds;
     without-reply = without-reply s room ram uds;
     goes-on = goes-on s room ram uds;

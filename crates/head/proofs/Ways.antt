@@ -17,7 +17,8 @@ use Rattle.record.specs.Record.{recordAt}
 use Rattle.record.specs.Types.{Source, slot0, slot1, client, unknown, sourceOf}
 use Rattle.protocol.specs.Commands.{lengthOk, placeOf, countIn, isLast}
 use Rattle.protocol.specs.Replies.{sent, nameReply, udiReply, blockReply, digestReply, putIn}
-use Rattle.protocol.specs.Theorems.{Framed}
+use Rattle.protocol.specs.Theorems.{IsReply}
+use Rattle.protocol.specs.Theorems as theorems
 use Rattle.protocol.proofs.Proved.{protocol}
 use Rattle.protocol.specs.declared.Reply.{Reply}
 use Rattle.head.specs.State.{isWhole, incomingOk, loadingOk, progressIn, progressOk, live, idle, ofSize, ended}
@@ -225,9 +226,9 @@ module _ (s : State) (room ram : List ℕ) (n : ℕ) (P : (List ℕ → Outcome)
     pub refused : (k : ℕ) → k ≡ actRefusal s (length room) (length ram) n → (k ≡ 0 → ⊥) → P (refusing k s room ram)
     pub halt : (k : ℕ) → (k ≡ 23) ⊎ (k ≡ 24) → P (stopping k s room ram)
     -- a query, or a load that is not taken
-    pub reply : (r : Reply) → Framed r → P (replying r (between s (s .progress)) room ram)
+    pub reply : (r : Reply) → IsReply r → P (replying r (between s (s .progress)) room ram)
     -- a load that is taken, or a block that is not the last
-    pub progress : (r : Reply) → Framed r → (p : Progress) (ram1 : List ℕ) → progressOk p (s .config .«ram_len») ≡ true
+    pub progress : (r : Reply) → IsReply r → (p : Progress) (ram1 : List ℕ) → progressOk p (s .config .«ram_len») ≡ true
         → (live (s .progress .phase) ≡ true → live (p .phase) ≡ true) → Writes s ram1 ram → P (replying r (between s p) room ram1)
     -- the last block
     pub start : (d ram1 : List ℕ) → Writes s ram1 ram → P (λ u. replied 129 (putIn room (sent (digestReply (s .incoming .header) d))) (starting (s .config) (s .progress) d ram1 u))
@@ -251,20 +252,20 @@ module _ (s : State) (room ram : List ℕ) (n : ℕ) (P : (List ℕ → Outcome)
     block-ways z next =
         by-either P (isLast (s .progress .size) (s .progress .block)) _ _
         (λ l. finish-ways _ _ z)
-        (λ l. w .progress (blockReply h) (protocol .lengths h [] [] true .3) (nextBlock (s .progress)) _ (next l) (λ v. v) z)
+        (λ l. w .progress (blockReply h) (theorems.block h) (nextBlock (s .progress)) _ (next l) (λ v. v) z)
 
     load-ways : P (performed givesLoad s room ram)
     unfolding afterLoad loadAnswer
     load-ways =
-        let f = protocol .lengths h [] [] (takes s) .2 in
+        let f = theorems.load h (takes s) in
         by-test (λ (p : Progress). P (replying (loadAnswer s) (between s p) room ram)) (takes s) _ _
         (λ g. w .progress (loadAnswer s) f (loaded (loadOf s)) ram (loaded-ok s g) (λ v. refl) (λ e. (refl, refl, refl)))
         (λ g. w .reply (loadAnswer s) f)
 
     module _ (fits : length ram ≡ s .config .«ram_len») (ok : progressOk (s .progress) (s .config .«ram_len») ≡ true) where
       request-ways : (c l : ℕ) (r : Request) → requestIn (s .progress .phase) c l ≡ r → P (performed r s room ram)
-      request-ways c l asksName e = w .reply (nameReply h) (protocol .lengths h [] [] true .0)
-      request-ways c l asksUdi e = w .reply (udiReply h (s .config .udi)) (protocol .lengths h (s .config .udi) [] true .1)
+      request-ways c l asksName e = w .reply (nameReply h) (theorems.name h)
+      request-ways c l asksUdi e = w .reply (udiReply h (s .config .udi)) (theorems.udi h (s .config .udi))
       request-ways c l givesLoad e = load-ways
       request-ways c l givesBlock e =
           let m = s .config .«ram_len» in

@@ -6,7 +6,7 @@ use mathlib.Core.Path.{_≡_}
 use mathlib.Core.Bool.{true, false}
 use mathlib.Core.Option.{Option, none, some}
 use mathlib.Core.List.{List, [], _∷_, _++_}
-use lib.ListN.{length}
+use lib.ListN.{length, take}
 use Rattle.protocol.specs.Commands.{loadIn, goodLoad}
 use Rattle.endian.specs.Lists.{each, padded, zeros}
 use Rattle.protocol.specs.Replies.{sent, nameReply, udiReply, loadReply, blockReply, digestReply}
@@ -17,7 +17,7 @@ use Rattle.head.specs.State.{idle, ended}
 use Rattle.head.specs.Answers.{refused, continues, whole, stopped, started, Result}
 use Rattle.head.specs.Start.{ending}
 use Rattle.head.specs.Begin.{Flash, flashOf, fits, beginning}
-use Rattle.head.specs.Gather.{gathered}
+use Rattle.head.specs.Gather.{withIncoming, gathered}
 use Rattle.head.specs.Act.{loaded, acted}
 use Rattle.head.specs.Theorems.{gatheredOn}
 use Rattle.head.specs.declared.Phase.{Phase}
@@ -114,6 +114,12 @@ pub record Begins : Type 0 where
 abbrev pub having : List ℕ → State
 having bs = gatheredOn bs (record { report = continues; state = beginning (padded 256 (4 ∷ [])) (zeros 8) (flashed 0 0 []) (0 ∷ []) (zeros 8) .state }) .state
 
+-- its reply to a whole load of size 0 with this header
+abbrev pub replyToNone : ℕ → List ℕ
+replyToNone h =
+    let o = acted (withIncoming (having []) (record { header = h; got = 129; body = padded 128 (0x03 ∷ []) })) (zeros 129) (0 ∷ []) (zeros 8) in
+    take (o .reply) (o .room)
+
 pub record KnownAnswers : Type 0 where
   -- flags 0, 1, 2 and 255, in byte 6: 0 means that there is no user secret, 1 that it is used, also one of zeros, and a load with another is
   -- not good
@@ -125,13 +131,13 @@ pub record KnownAnswers : Type 0 where
   -- masks 1, 0xFFFFFFFE and 0x00000100: bit 0 is RESET_SEED, and the other 31 are ignored
   pub masks : (recordAt (masked 1 0 0 0) .resetSeed ≡ true) × (recordAt (masked 254 255 255 255) .resetSeed ≡ false)
       × (recordAt (masked 0 1 0 0) .resetSeed ≡ false)
-  -- each reply as bytes: the command's frame ID, endpoint 2, bit 2 zero
+  -- each reply as bytes: the command's frame ID, endpoint 2, and bit 2 as the status byte has it
   pub name : sent (nameReply 0x10)
       ≡ 0x12 ∷ 0x02 ∷ 0x74 ∷ 0x6b ∷ 0x31 ∷ 0x20 ∷ 0x6d ∷ 0x6b ∷ 0x64 ∷ 0x66 ∷ 0x01 ∷ 0 ∷ 0 ∷ 0 ∷ 0 ∷ 0 ∷ 0
       ∷ 0 ∷ 0 ∷ 0 ∷ 0 ∷ 0 ∷ 0 ∷ 0 ∷ 0 ∷ 0 ∷ 0 ∷ 0 ∷ 0 ∷ 0 ∷ 0 ∷ 0 ∷ 0 ∷ []
   pub udi : (u : List ℕ) → length u ≡ 8 → sent (udiReply 0x30 u) ≡ 0x32 ∷ 0x09 ∷ 0 ∷ u ++ zeros 22
   pub taken : sent (loadReply 0x53 true) ≡ 0x51 ∷ 0x04 ∷ 0 ∷ 0 ∷ 0 ∷ []
-  pub not-taken : sent (loadReply 0x53 false) ≡ 0x51 ∷ 0x04 ∷ 1 ∷ 0 ∷ 0 ∷ []
+  pub not-taken : sent (loadReply 0x53 false) ≡ 0x55 ∷ 0x04 ∷ 1 ∷ 0 ∷ 0 ∷ []
   pub block : sent (blockReply 0x73) ≡ 0x71 ∷ 0x06 ∷ 0 ∷ 0 ∷ 0 ∷ []
   pub digest : (d : List ℕ) → length d ≡ 32 → sent (digestReply 0x73 d) ≡ 0x73 ∷ 0x07 ∷ 0 ∷ d ++ zeros 94
   -- the string of the CDI as bytes, direct and chained, without and with a user secret
@@ -146,6 +152,9 @@ pub record KnownAnswers : Type 0 where
       × (acted (having (0x10 ∷ 0x01 ∷ [])) (zeros 129) (0 ∷ []) [] .report ≡ refused 5)
       × (acted (having (0x10 ∷ 0x01 ∷ [])) (zeros 129) (0 ∷ []) (zeros 8) .report ≡ continues)
       × (acted (having (0x10 ∷ 0x01 ∷ [])) (zeros 129) (0 ∷ []) (zeros 8) .state ≡ having [])
+  -- a load that is not taken, with each frame ID
+  pub none-loaded : (replyToNone 0x13 ≡ 0x15 ∷ 0x04 ∷ 1 ∷ 0 ∷ 0 ∷ []) × (replyToNone 0x33 ≡ 0x35 ∷ 0x04 ∷ 1 ∷ 0 ∷ 0 ∷ [])
+      × (replyToNone 0x53 ≡ 0x55 ∷ 0x04 ∷ 1 ∷ 0 ∷ 0 ∷ []) × (replyToNone 0x73 ≡ 0x75 ∷ 0x04 ∷ 1 ∷ 0 ∷ 0 ∷ [])
   -- a frame for endpoint 3 leaves nothing, and there is nothing to act on
   pub foreign : (gathered (having (0x18 ∷ [])) 0x01 ≡ record { report = continues; state = having [] })
       × (acted (having (0x18 ∷ 0x01 ∷ [])) [] [] [] .report ≡ refused 47)

@@ -10,6 +10,7 @@ use lib.Seq.{paste}
 use Rattle.framing.specs.Header.{good, headerAt}
 use Rattle.rfc7693.specs.Rfc7693.{blake2s}
 use Rattle.protocol.specs.Commands.{placeOf, countIn}
+use Rattle.protocol.specs.Theorems.{StatusTold}
 use Rattle.endian.specs.Lists.{zeros}
 use Rattle.head.specs.State.{isWhole, inRange, live, idle, ended}
 use Rattle.head.specs.Answers.{refused, continues, whole, stopped, started, reportOf, Gathering, Result, Outcome, replied, unreplied}
@@ -119,6 +120,8 @@ module _ (s : State) (room ram uds : List ℕ) where
     -- a reply has at most 129 bytes, and beyond it the room is as it was
     pub fits : afterAct .reply ≤ 129
     pub beyond : drop (afterAct .reply) (afterAct .room) ≡ drop (afterAct .reply) room
+    -- bit 2 of its header is set exactly when it has a status and that is 1 (change request 5)
+    pub told : 1 ≤ afterAct .reply → StatusTold (take (afterAct .reply) (afterAct .room))
     -- only the block's bytes of RAM are written, and those only by a call that replies; that the gathered body has 128 bytes is its type in
     -- the code
     pub beyond-block : length (s .incoming .body) ≡ 128 → SameButBlock s (afterAct .ram) ram

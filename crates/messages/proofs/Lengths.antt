@@ -10,14 +10,15 @@ use lib.ListN.{length, take, drop, length-append, length-take, length-replicate}
 use Rattle.endian.specs.Lists.{padded}
 use Rattle.protocol.specs.Commands.{lengthOk, blocksFor, placeOf}
 use Rattle.client.specs.Frames.{refusal}
-use Rattle.client.specs.Replies.{takingAs, statusIn, digestIn, isExpected, expectedReply, refusedWith, taking, differing}
+use Rattle.protocol.specs.Replies.{statusIn}
+use Rattle.client.specs.Replies.{takingAs, digestIn, isExpected, expectedReply, refusedWith, taking, differing}
 use Rattle.client.specs.declared.Difference.{Difference}
 use Rattle.client.specs.declared.Difference.the-variants.{Nothing, Header, Length, Code, Status, Filler}
 use Rattle.client.proofs.Expected.{expected-fits}
 use Rattle.text.specs.Text.{ascii, hexOf, decimalOf}
 use Rattle.text.proofs.Proved.{texts}
 use Rattle.upload.specs.Upload.{cameOf}
-use Rattle.messages.specs.Messages.{frameName, secondsOf, cameName, differenceName, noAnswer, lineClosed, unexpected, refused, otherDigest, lengthWords, messageOf, loadedLine, barOf, rateOf, lineAt, progressLine}
+use Rattle.messages.specs.Messages.{frameName, secondsOf, cameName, differenceWords, noAnswer, lineClosed, unexpected, refused, otherDigest, lengthWords, messageOf, loadedLine, barOf, rateOf, lineAt, progressLine}
 use Rattle.upload.specs.declared.Job.{Job}
 use Rattle.upload.specs.declared.Exchange.{Exchange}
 use Rattle.upload.specs.declared.Failure.{Failure}
@@ -55,7 +56,7 @@ came-short : (x : Exchange) → length (x .reply) ≡ 129 → length (cameName x
 came-short x e =
     let l = reply-short x e in either (eqb (x .got) 0) _ _ 278 (omega arith) (simp length-append (omega arith))
 
-difference-short : (d : Difference) → length (differenceName d) ≤ 6
+difference-short : (d : Difference) → length (differenceWords d) ≤ 33
 difference-short Nothing = omega arith
 difference-short Header = omega arith
 difference-short Length = omega arith

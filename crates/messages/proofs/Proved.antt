@@ -1,7 +1,7 @@
 -- The theorem of specs/Theorems.antt.
 use native.Mathlib.Omega.{arith}
 use mathlib.Core.Path.{refl}
-use Rattle.framing.specs.Header.{headerAt}
+use Rattle.framing.specs.Header.{fieldsAt}
 use Rattle.client.specs.Frames.{refusal}
 use Rattle.client.specs.Replies.{differenceIn, differing}
 use Rattle.text.specs.Text.{decimalOf}
@@ -10,7 +10,7 @@ use Rattle.messages.specs.Theorems.{Messages}
 use Rattle.messages.proofs.Lengths.{fits, loaded-fits, progress-fits}
 
 pub messages : Messages
-unfolding frameName decimalOf differing refusal differenceIn headerAt progressLine
+unfolding frameName decimalOf differing refusal differenceIn fieldsAt progressLine
 messages = record {
   fits = λ job x f e. fits job x e f;
   loaded-fits = loaded-fits;
@@ -18,5 +18,6 @@ messages = record {
   progress-fits = progress-fits;
   silent = refl;
   other = refl;
+  disagrees = refl;
   half = refl;
 }

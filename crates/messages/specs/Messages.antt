@@ -33,13 +33,13 @@ abbrev pub cameName : Exchange → List ℕ
 cameName x = cond (eqb (x .got) 0) (ascii "no answer") (ascii "only " ++ hexOf (cameOf x) ++ ascii " came in answer")
 
 -- `Nothing` stands for a reply that goes on behind the longest one's end
-abbrev pub differenceName : Difference → List ℕ
-differenceName Nothing = ascii "length"
-differenceName Header = ascii "header"
-differenceName Length = ascii "length"
-differenceName Code = ascii "code"
-differenceName Status = ascii "status"
-differenceName Filler = ascii "filler"
+abbrev pub differenceWords : Difference → List ℕ
+differenceWords Nothing = ascii "length differs"
+differenceWords Header = ascii "header differs"
+differenceWords Length = ascii "length differs"
+differenceWords Code = ascii "code differs"
+differenceWords Status = ascii "status is not bit 2 of its header"
+differenceWords Filler = ascii "filler differs"
 
 -- ---- messages
 
@@ -56,7 +56,7 @@ lineClosed job x =
 abbrev pub unexpected : Job → Exchange → List ℕ
 unexpected job x =
     ascii "the reply to " ++ frameName job (x .k) ++ ascii " is not the expected one (43), its "
-    ++ differenceName (differing (job .len) (job .id) (x .k) (cameOf x)) ++ ascii " differs: " ++ hexOf (cameOf x)
+    ++ differenceWords (differing (job .len) (job .id) (x .k) (cameOf x)) ++ ascii ": " ++ hexOf (cameOf x)
     ++ ascii "; reset the head and load again"
 
 abbrev pub refused : Job → Exchange → List ℕ

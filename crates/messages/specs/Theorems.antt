@@ -24,4 +24,6 @@ pub record Messages : Type 0 where
       ≡ ascii "no answer to frame 0 (the load) in 0.2 s of silence; is the head waiting for a program? has it stopped?"
   pub other : messageOf small (record { k = 1; got = 5; reply = 0x31 ∷ 0x06 ∷ zeros 127; ticks = 2 }) UnexpectedReply
       ≡ ascii "the reply to frame 1 (block 1 of 1) is not the expected one (43), its header differs: 3106000000; reset the head and load again"
+  pub disagrees : messageOf small (record { k = 0; got = 5; reply = 0x31 ∷ 0x04 ∷ 1 ∷ zeros 126; ticks = 2 }) UnexpectedReply
+      ≡ ascii "the reply to frame 0 (the load) is not the expected one (43), its status is not bit 2 of its header: 3104010000; reset the head and load again"
   pub half : progressLine 254 1 2 ≡ 13 ∷ ascii "[################................] 1 of 2 blocks, 50%, 63 bytes/s" ++ 27 ∷ ascii "[K"

@@ -5,7 +5,7 @@ ghost use Rattle.text.specs.Text.{hexOf, added, textOf};
 ghost use Rattle.protocol.specs.Commands.{blocksFor};
 ghost use Rattle.client.specs.Replies.{differing};
 ghost use Rattle.upload.specs.Upload.{cameOf};
-ghost use Rattle.messages.specs.Messages.{blockName, frameName, secondsOf, cameName, noAnswer, lineClosed, differenceName, unexpected, refused, otherDigest, lengthWords, messageOf, loadedLine, startedLine, barOf, countOf, rateOf, lineAt, progressLine};
+ghost use Rattle.messages.specs.Messages.{blockName, frameName, secondsOf, cameName, noAnswer, lineClosed, differenceWords, unexpected, refused, otherDigest, lengthWords, messageOf, loadedLine, startedLine, barOf, countOf, rateOf, lineAt, progressLine};
 use client::Difference;
 use text::Text;
 use upload::Exchange;
@@ -86,15 +86,15 @@ fn difference(job: Job, x: Exchange) -> Difference
 }
 
 fn put_difference(t: Text, d: Difference) -> Text
-    ensures { λ r. ⌜ r ≡ added t (differenceName d) ⌝ }
+    ensures { λ r. ⌜ r ≡ added t (differenceWords d) ⌝ }
 {
     match d {
-        Difference::Nothing => text::put_all(t, b"length"),
-        Difference::Header => text::put_all(t, b"header"),
-        Difference::Length => text::put_all(t, b"length"),
-        Difference::Code => text::put_all(t, b"code"),
-        Difference::Status => text::put_all(t, b"status"),
-        Difference::Filler => text::put_all(t, b"filler"),
+        Difference::Nothing => text::put_all(t, b"length differs"),
+        Difference::Header => text::put_all(t, b"header differs"),
+        Difference::Length => text::put_all(t, b"length differs"),
+        Difference::Code => text::put_all(t, b"code differs"),
+        Difference::Status => text::put_all(t, b"status is not bit 2 of its header"),
+        Difference::Filler => text::put_all(t, b"filler differs"),
     }
 }
 
@@ -132,7 +132,7 @@ fn unexpected_reply(t: Text, job: Job, x: Exchange) -> Text
     let b = put_frame(a, job, x.k);
     let c = text::put_all(b, b" is not the expected one (43), its ");
     let d = put_difference(c, difference(job, x));
-    let e = text::put_all(d, b" differs: ");
+    let e = text::put_all(d, b": ");
     let f = put_reply(e, x);
     text::put_all(f, b"; reset the head and load again")
 }

@@ -7,6 +7,7 @@ use lib.Dec.{eqb}
 use lib.ListN.{length, take, drop, length-append, length-take}
 use Rattle.rfc7693.specs.Rfc7693.{blake2s}
 use Rattle.cdi.specs.Cdi.{cdiOf}
+use Rattle.protocol.proofs.Proved.{protocol}
 use Rattle.head.specs.Answers.{Report, refused, continues, whole, stopped, started, reportsWhole, Result, Outcome, replied}
 use Rattle.head.specs.Gather.{gathered}
 use Rattle.head.specs.Start.{starting}
@@ -79,8 +80,8 @@ act-short s room ram uds =
     (record {
       refused = λ k e n. record { reply = omega arith; cdi = omega arith };
       halt = λ k n. record { reply = omega arith; cdi = omega arith };
-      reply = λ r f. let l = f .0 in record { reply = omega arith; cdi = omega arith };
-      progress = λ r f p ram1 o v y. let l = f .0 in record { reply = omega arith; cdi = omega arith };
+      reply = λ r f. let l = protocol .lengths r f .0 in record { reply = omega arith; cdi = omega arith };
+      progress = λ r f p ram1 o v y. let l = protocol .lengths r f .0 in record { reply = omega arith; cdi = omega arith };
       start = λ d ram1 y. record { reply = omega arith; cdi = rw length-take (omega arith) };
       fail = λ d ram1 y. record { reply = omega arith; cdi = omega arith };
     })

@@ -2,7 +2,7 @@
 use mathlib.Core.Path.{refl}
 use Rattle.rfc7693.specs.Rfc7693.{rotr, words, iv, sigma, added, xorRotated, G, workVector, round, rounds, F, input, blockAt, blockCount, leading, compressions, compressed, initial, blake2s}
 use Rattle.endian.specs.Endian.{word, firstBytes}
-use Rattle.framing.specs.Header.{headerAt, headerByte}
+use Rattle.framing.specs.Header.{headerAt, fieldsAt, headerByte}
 use Rattle.record.specs.Record.{recordAt}
 use Rattle.cdi.specs.Cdi.{cdiString, cdiOf}
 use Rattle.protocol.specs.Commands.{loadIn}
@@ -19,13 +19,14 @@ use Rattle.printer.proofs.Folds.{folds}
 use Rattle.printer.proofs.NoFlash.{stop-at-begin}
 
 pub printer : Printer
-unfolding output decimalOf afterBegin afterByte beginning fromFlash decided gatherRefusal gathered byteStep actRefusal acted inRange ended putIn recordAt word headerAt nameReply udiReply replyHeader headerByte loadIn loadAnswer loadReply afterLoad actedBlock finishedWith starting digestReply cdiString cdiOf rotr words firstBytes iv sigma added xorRotated G workVector round rounds F input blockAt blockCount leading compressions compressed initial blake2s
+unfolding output decimalOf afterBegin afterByte beginning fromFlash decided gatherRefusal gathered byteStep actRefusal acted inRange ended putIn recordAt word headerAt fieldsAt nameReply udiReply replyHeader headerByte loadIn loadAnswer loadReply afterLoad actedBlock finishedWith starting digestReply cdiString cdiOf rotr words firstBytes iv sigma added xorRotated G workVector round rounds F input blockAt blockCount leading compressions compressed initial blake2s
 printer = record {
   folds = folds;
   example = refl;
   start = refl;
   stop-at-begin = stop-at-begin;
   stop-26 = refl;
+  not-taken = refl;
   stop-22 = refl;
   short = refl;
 }

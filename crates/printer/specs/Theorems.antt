@@ -43,6 +43,8 @@ pub record Printer : Type 0 where
       ++ ascii "R 1104000000\n"
       ++ ascii "R 1307004c76401a2032527062b60916f252f41b5e3d75a3fa50a6376b3aedb9f59d8c9a" ++ replicate 188 48 ++ ascii "\n"
       ++ ascii "S 1 cc8dc0a1d59dd1ea76ba0012c01125e71a4b873c0ff2e1ea1636e02f35b7b287\n") 556
+  -- a load of size 0 is not taken: bit 2 of the reply's header and its status byte say so, and the head goes on waiting
+  pub not-taken : output (front ++ padded 129 (0x13 ∷ 0x03 ∷ [])) 32768 ≡ gives (ascii "R 1504010000\nW 129\n") 425
   -- types 0 to 3 stop at begin, since nothing is in flash, and nothing is received: change request 3
   pub stop-at-begin : (input : List ℕ) (m : ℕ) → 296 ≤ length input → numberIn typeField input ≤ 3 → lengthOk m ≡ true
       → output input m ≡ gives (ascii "F 26\n") 296

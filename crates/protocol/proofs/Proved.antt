@@ -11,25 +11,27 @@ use lib.Dec.{leb}
 use lib.ListN.{length, take, length-take, length-append, length-replicate}
 use lib.Seq.{take-at}
 use borrow.Author.Tests.{eq-eqb, eqb-true, eqb-false, le-leb, leb-true}
-use Rattle.framing.specs.Header.{good, headerAt, headerByte, codeOf, frameId, inField}
+use Rattle.framing.specs.Header.{fields, fieldsAt, headerByte, codeOf, frameId, inField}
+use Rattle.framing.specs.Theorems.{bit}
 use Rattle.framing.proofs.Headers.{headers}
 use Rattle.framing.proofs.Headers as framing
 use Rattle.endian.specs.Endian.{word}
 use Rattle.protocol.specs.Commands.{firmware, loadIn, goodLoad, blocksFor, placeOf, countIn, isLast}
-use Rattle.protocol.specs.Replies.{written, replyHeader, replyWith, nameReply, udiReply, loadReply, blockReply, digestReply}
+use Rattle.protocol.specs.Replies.{written, replyHeader, replyWith, sent, nameReply, udiReply, loadReply, blockReply, digestReply}
 use Rattle.endian.specs.Lists.{padded}
-use Rattle.protocol.specs.Theorems.{Protocol, IsGood, Framed, loadWith}
+use Rattle.protocol.specs.Theorems.{Protocol, IsGood, Framed, StatusTold, IsReply, name, udi, load, block, digest, loadWith}
 use Rattle.protocol.specs.declared.Load.{Load}
+use Rattle.protocol.specs.declared.Reply.{Reply}
 
-fields : (h command flag : ℕ) (size uss rest : List ℕ) → length size ≡ 4 → length uss ≡ 32
+fields-in : (h command flag : ℕ) (size uss rest : List ℕ) → length size ≡ 4 → length uss ≡ 32
     → loadIn (h ∷ command ∷ size ++ flag ∷ uss ++ rest) ≡ loadWith (word size 0) flag uss
 unfolding loadIn word
-fields h command flag (a ∷ b ∷ c ∷ d ∷ []) uss rest e l = rw (take-at uss rest 32 l)
-fields h command flag [] uss rest e l = absurd (omega arith)
-fields h command flag (a ∷ []) uss rest e l = absurd (omega arith)
-fields h command flag (a ∷ b ∷ []) uss rest e l = absurd (omega arith)
-fields h command flag (a ∷ b ∷ c ∷ []) uss rest e l = absurd (omega arith)
-fields h command flag (a ∷ b ∷ c ∷ d ∷ x ∷ xs) uss rest e l = absurd (omega arith)
+fields-in h command flag (a ∷ b ∷ c ∷ d ∷ []) uss rest e l = rw (take-at uss rest 32 l)
+fields-in h command flag [] uss rest e l = absurd (omega arith)
+fields-in h command flag (a ∷ []) uss rest e l = absurd (omega arith)
+fields-in h command flag (a ∷ b ∷ []) uss rest e l = absurd (omega arith)
+fields-in h command flag (a ∷ b ∷ c ∷ []) uss rest e l = absurd (omega arith)
+fields-in h command flag (a ∷ b ∷ c ∷ d ∷ x ∷ xs) uss rest e l = absurd (omega arith)
 
 zero-or-one : (k : ℕ) → k ≤ 1 → (k ≡ 0) ⊎ (k ≡ 1)
 zero-or-one zero h = inl refl
@@ -64,38 +66,59 @@ last-block n k h e =
     omega arith
 
 -- a header for the firmware reads as it was written
-pub header-of : (id n : ℕ) → id ≤ 3 → codeOf n < 4 → headerAt (written (headerByte id firmware n)) ≡ good id firmware n
-header-of id n h c =
-    let w = framing.written id 2 n (omega arith) (omega arith) c in
-    rw w (headers .exact _ id 2 n .1 w .1)
+pub header-of : (id n s : ℕ) → id ≤ 3 → codeOf n < 4 → s ≤ 1 → fieldsAt (written (headerByte id firmware n s)) ≡ fields id firmware n s
+header-of id n s h c t =
+    let w = framing.written id 2 n s (omega arith) (omega arith) c (omega arith) in
+    rw w (headers .exact _ id 2 n s .1 w .1)
 
-reply-header : (h n : ℕ) → codeOf n < 4 → headerAt (replyHeader h n) ≡ good (inField frameId h) 2 n
+reply-header : (h n s : ℕ) → codeOf n < 4 → s ≤ 1 → fieldsAt (replyHeader h n s) ≡ fields (inField frameId h) 2 n s
 unfolding replyHeader
-reply-header h n c = header-of (h / 32 % 4) n (omega arith) c
+reply-header h n s c t = header-of (h / 32 % 4) n s (omega arith) c t
 
-of-length : (h n : ℕ) → (n ≡ 4) ⊎ ((n ≡ 32) ⊎ (n ≡ 128)) → headerAt (replyHeader h n) ≡ good (inField frameId h) 2 n
-of-length h n (inl e) = reply-header h n (rw e (omega arith))
-of-length h n (inr (inl e)) = reply-header h n (rw e (omega arith))
-of-length h n (inr (inr e)) = reply-header h n (rw e (omega arith))
+of-length : (h n s : ℕ) → (n ≡ 4) ⊎ ((n ≡ 32) ⊎ (n ≡ 128)) → s ≤ 1 → fieldsAt (replyHeader h n s) ≡ fields (inField frameId h) 2 n s
+of-length h n s (inl e) = reply-header h n s (rw e (omega arith))
+of-length h n s (inr (inl e)) = reply-header h n s (rw e (omega arith))
+of-length h n s (inr (inr e)) = reply-header h n s (rw e (omega arith))
 
-framed : (h n : ℕ) (bytes : List ℕ) → n ≤ 128 → Framed (replyWith h n (padded 128 bytes))
-framed h n bytes l =
-    let e : length (take n (padded 128 bytes)) ≡ n = rw (length-take, length-append, length-replicate) (omega arith) in
+framed : (h n code s : ℕ) (given : List ℕ) → n ≤ 128 → Framed (replyWith h n code s (padded 126 given))
+framed h n code s given l =
+    let e : length (take n (code ∷ s ∷ padded 126 given)) ≡ n = rw (length-take, length-append, length-replicate) (omega arith) in
     (l, ap suc e ∙ sym (add-one n))
 
-reply-lengths : (h : ℕ) (udi digest : List ℕ) (g : Bool)
-    → Framed (nameReply h) × Framed (udiReply h udi) × Framed (loadReply h g) × Framed (blockReply h) × Framed (digestReply h digest)
+reply-lengths : (r : Reply) → IsReply r → Framed r
 unfolding nameReply udiReply loadReply blockReply digestReply
-reply-lengths h udi digest g =
-    ((omega arith, refl), framed h 32 (0x09 ∷ 0 ∷ udi) (omega arith), (omega arith, refl), (omega arith, refl), framed h 128 (0x07 ∷ 0 ∷ digest) (omega arith))
+reply-lengths _ (name h) = (omega arith, refl)
+reply-lengths _ (udi h u) = framed h 32 0x09 0 u (omega arith)
+reply-lengths _ (load h g) = (omega arith, refl)
+reply-lengths _ (block h) = (omega arith, refl)
+reply-lengths _ (digest h d) = framed h 128 0x07 0 d (omega arith)
+
+-- bit 2 of the header that is written for a status
+bit-is : (h n s : ℕ) → codeOf n < 4 → s ≤ 1 → bit 2 (replyHeader h n s) ≡ s
+bit-is h n s c t = sym (headers .status _ _ _ _ _ (reply-header h n s c t))
+
+-- a reply with a status tells it
+module _ (h n code s : ℕ) (others : List ℕ) (c : codeOf n < 4) (t : s ≤ 1) (d : code ≡ 2 → ⊥) where
+  with-status : StatusTold (replyHeader h n s ∷ code ∷ s ∷ others)
+  with-status = let e = bit-is h n s c t in (λ b. (d, sym e ∙ b), λ b. e ∙ b .1)
+
+reply-told : (r : Reply) → IsReply r → StatusTold (sent r)
+unfolding nameReply udiReply loadReply blockReply digestReply
+reply-told _ (name h) = (λ e. absurd (let z = bit-is h 32 0 (omega arith) (omega arith) in omega arith), λ e. absurd (e .0 refl))
+reply-told _ (udi h u) = with-status h 32 0x09 0 (take 30 (padded 126 u)) (omega arith) (omega arith) (λ e. omega arith)
+reply-told _ (load h true) = with-status h 4 0x04 0 (0 ∷ 0 ∷ []) (omega arith) (omega arith) (λ e. omega arith)
+reply-told _ (load h false) = with-status h 4 0x04 1 (0 ∷ 0 ∷ []) (omega arith) (omega arith) (λ e. omega arith)
+reply-told _ (block h) = with-status h 4 0x06 0 (0 ∷ 0 ∷ []) (omega arith) (omega arith) (λ e. omega arith)
+reply-told _ (digest h d) = with-status h 128 0x07 0 (take 126 (padded 126 d)) (omega arith) (omega arith) (λ e. omega arith)
 
 pub protocol : Protocol
 protocol = record {
-  load = fields;
+  load = fields-in;
   used = λ l. (eqb-true (l .flag) 1, eq-eqb (l .flag) 1);
   good-load = λ m l. (is-good m l, good-is m l);
   full = full-block;
   last = last-block;
   header = of-length;
   lengths = reply-lengths;
+  told = reply-told;
 }

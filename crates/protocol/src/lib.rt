@@ -3,7 +3,9 @@
 ghost use mathlib.Core.Path.{_≡_};
 ghost use lib.ListN.{take, drop};
 ghost use Rattle.protocol.specs.Commands.{lengthOk, bytesOf, loadIn, goodLoad, usesUss, blocksFor, placeOf, countIn, isLast};
+ghost use Rattle.framing.specs.Answers.{statusNumber};
 ghost use Rattle.protocol.specs.Replies.{replyHeader, replyWith, nameReply, udiReply, loadReply, blockReply, digestReply};
+use framing::Status;
 
 // A frame: its header, and its body at the front of 128 bytes.
 pub struct Frame {
@@ -123,27 +125,30 @@ pub fn is_last(size: u32, block: u32) -> bool
 }
 
 // The header of the reply to a command with this header.
-fn reply_header(header: u8, len: usize) -> u8
-    ensures { λ r. ⌜ r ≡ replyHeader header len ⌝ }
+fn reply_header(header: u8, len: usize, status: Status) -> u8
+    ensures { λ r. ⌜ r ≡ replyHeader header len (statusNumber status) ⌝ }
 {
-    match framing::write_header(framing::frame_id(header), 2, len) {
+    match framing::write_header(framing::frame_id(header), 2, len, status) {
         framing::Written::Byte(b) => b,
         framing::Written::Refused => 0,
     }
 }
 
-// A reply with these bytes in its body.
-fn with_body(header: u8, len: usize, body: [u8; 128]) -> Reply
-    ensures { λ r. ⌜ r ≡ replyWith header len body ⌝ }
+// A reply with a status, which stands in its header and after its code: all of its body but these two bytes is given.
+fn with_status(header: u8, len: usize, code: u8, status: Status, body: [u8; 128]) -> Reply
+    ensures { λ r. ⌜ r ≡ replyWith header len code (statusNumber status) (drop 2 body) ⌝ }
 {
+    let mut filled = body;
+    filled[0] = code;
+    filled[1] = framing::status_number(status);
     Reply {
-        header: reply_header(header, len),
+        header: reply_header(header, len, status),
         len,
-        body,
+        body: filled,
     }
 }
 
-// "tk1 ", "mkdf", version 1.
+// "tk1 ", "mkdf", version 1. It has no status.
 pub fn name_reply(header: u8) -> Reply
     ensures { λ r. ⌜ r ≡ nameReply header ⌝ }
 {
@@ -164,7 +169,11 @@ pub fn name_reply(header: u8) -> Reply
     ];
     let mut body = [0u8; 128];
     bytes::copy(&name, &mut body[..13]);
-    with_body(header, 32, body)
+    Reply {
+        header: reply_header(header, 32, Status::Good),
+        len: 32,
+        body,
+    }
 }
 
 // The device's identity.
@@ -172,31 +181,25 @@ pub fn udi_reply(header: u8, udi: [u8; 8]) -> Reply
     ensures { λ r. ⌜ r ≡ udiReply header udi ⌝ }
 {
     let mut body = [0u8; 128];
-    body[0] = 0x09;
     bytes::copy(&udi, &mut body[2..10]);
-    with_body(header, 32, body)
+    with_status(header, 32, 0x09, Status::Good, body)
 }
 
-// Whether a load was taken: status 0 or 1.
+// Whether a load was taken.
 pub fn load_reply(header: u8, good: bool) -> Reply
     ensures { λ r. ⌜ r ≡ loadReply header good ⌝ }
 {
-    let mut body = [0u8; 128];
-    body[0] = 0x04;
     if good {
-        return with_body(header, 4, body);
+        return with_status(header, 4, 0x04, Status::Good, [0; 128]);
     }
-    body[1] = 1;
-    with_body(header, 4, body)
+    with_status(header, 4, 0x04, Status::Bad, [0; 128])
 }
 
 // A block that is not the last was stored.
 pub fn block_reply(header: u8) -> Reply
     ensures { λ r. ⌜ r ≡ blockReply header ⌝ }
 {
-    let mut body = [0u8; 128];
-    body[0] = 0x06;
-    with_body(header, 4, body)
+    with_status(header, 4, 0x06, Status::Good, [0; 128])
 }
 
 // The last block was stored: the program's digest.
@@ -204,7 +207,6 @@ pub fn digest_reply(header: u8, digest: [u8; 32]) -> Reply
     ensures { λ r. ⌜ r ≡ digestReply header digest ⌝ }
 {
     let mut body = [0u8; 128];
-    body[0] = 0x07;
     bytes::copy(&digest, &mut body[2..34]);
-    with_body(header, 128, body)
+    with_status(header, 128, 0x07, Status::Good, body)
 }

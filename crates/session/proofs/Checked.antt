@@ -6,7 +6,7 @@ use mathlib.Core.List.{List, [], _∷_, _++_}
 use native.Mathlib.Omega.{arith}
 use lib.ListN.{length}
 use Rattle.endian.proofs.Cases.{impossible}
-use Rattle.framing.specs.Header.{good, stop, headerAt}
+use Rattle.framing.specs.Header.{good, stop, headerAt, fieldsAt}
 use Rattle.rfc7693.proofs.Proved.{hashing}
 use Rattle.cdi.proofs.Proved.{cdi}
 use Rattle.head.specs.State.{inRange}
@@ -26,7 +26,7 @@ use Rattle.session.proofs.Begins.{Fresh, fresh}
 use Rattle.head.specs.declared.State.{State}
 
 header-1b : headerAt 0x1b ≡ good 0 3 128
-unfolding headerAt
+unfolding headerAt fieldsAt
 header-1b = refl
 
 module _ (R : Reset) where
@@ -102,7 +102,7 @@ module _ (s : State) (b : Begun s) where
   bad-header x k e = rw state-is (halts (b .reset) x k in-range e)
 
 pub checklist : Checklist
-unfolding headerAt
+unfolding headerAt fieldsAt
 checklist =
     record {
       p1 = refl;

@@ -206,7 +206,7 @@ module _ (prog : List ℕ) (id : ℕ) (secret : Secret) (made : Made prog id sec
 
   header-only : (h : ℕ) → h < 256 → headerAt h ≡ good id firmware 128 → h ≡ commandHeader id
   unfolding commandHeader
-  header-only h l e = ap written (sym (headers .exact h id firmware 128 .0 (l, e)))
+  header-only h l e = ap written (sym (headers .exact h id firmware 128 0 .0 (l, headers .command h id firmware 128 .0 e)))
 
   is-load-frame : ProgramLoad prog id secret (frame prog id secret 0)
   is-load-frame = record { header = frame-header; load = is-load; says = load-is; ignored = ignored }

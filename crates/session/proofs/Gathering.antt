@@ -8,7 +8,7 @@ use lib.Dec.{eqb}
 use lib.ListN.{length, set, drop, length-append}
 use borrow.Author.Tests.{eqb-true, eqb-false, eq-eqb, ne-eqb}
 use Rattle.endian.proofs.Cases.{impossible}
-use Rattle.framing.specs.Header.{Reading, good, stop, headerAt, inField, endpoint, bodyLen}
+use Rattle.framing.specs.Header.{Reading, good, stop, headerAt, fieldsAt, inField, endpoint, bodyLen}
 use Rattle.framing.proofs.Headers.{by-bits, body-small, fields-of}
 use Rattle.endian.specs.Lists.{zeros}
 use Rattle.head.specs.State.{wholeBy, isWhole, idle}
@@ -44,7 +44,7 @@ whole-is h got id ep n e =
     ap (λ (r : Reading). wholeBy r got) e ∙ ap (λ (x : ℕ). eqb x 2 && eqb got (n + 1)) (sym (fields-of h id ep n e .1))
 
 pub is-part : (p : List ℕ) → Partial p → isWhole (holding p) ≡ false
-unfolding headerAt
+unfolding headerAt fieldsAt
 is-part [] v = refl
 is-part (h ∷ p) v = whole-is h (length p + 1) (v .id) (v .ep) (v .n) (v .header) ∙ go (forFirmware (h ∷ []))
   where

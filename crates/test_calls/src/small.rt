@@ -1,6 +1,8 @@
 // Headers and the CDI.
 use super::image;
 use framing::Header;
+use framing::ReplyHeader;
+use framing::Status;
 use framing::Written;
 
 pub fn call(c: [u8; 320]) {
@@ -8,11 +10,12 @@ pub fn call(c: [u8; 320]) {
         5 => read_header(c[1]),
         6 => write_header(c),
         7 => derive(c),
+        8 => read_reply_header(c[1]),
         _ => {}
     }
 }
 
-// A header: ID, endpoint and length, or 255 for a bad one.
+// The header of a command: ID, endpoint and length, or 255 for a bad one.
 fn read_header(b: u8) {
     match framing::read_header(b) {
         Header::Good { id, endpoint, len } => {
@@ -23,9 +26,26 @@ fn read_header(b: u8) {
     }
 }
 
-// Bytes 1 and 2 are ID and endpoint, 4 to 11 the length: the header, or 255 where it is refused, which no header is.
+// The header of a reply: ID, endpoint, length and status, or 255 for a bad one.
+fn read_reply_header(b: u8) {
+    match framing::read_reply_header(b) {
+        ReplyHeader::Good {
+            id,
+            endpoint,
+            len,
+            status,
+        } => {
+            let fields = [id, endpoint, len, framing::status_number(status)];
+            image::write(&fields);
+        }
+        ReplyHeader::Bad => image::write_byte(255),
+    }
+}
+
+// Bytes 1 and 2 are ID and endpoint, 3 is the status, 4 to 11 the length: the header, or 255 where it is refused, which no header is.
 fn write_header(c: [u8; 320]) {
-    match framing::write_header(c[1], c[2], image::length(c, 4)) {
+    let status = if c[3] == 0 { Status::Good } else { Status::Bad };
+    match framing::write_header(c[1], c[2], image::length(c, 4), status) {
         Written::Byte(b) => image::write_byte(b),
         Written::Refused => image::write_byte(255),
     }

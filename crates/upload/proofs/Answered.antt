@@ -8,8 +8,8 @@ use lib.Dec.{ltb}
 use lib.ListN.{length, getD, length-append}
 use borrow.Author.Tests.{lt-ltb, le-ltb, lt-leb}
 use Rattle.endian.proofs.Same.{same-refl}
-use Rattle.framing.specs.Header.{headerAt, bodyLen}
-use Rattle.framing.proofs.Headers.{body-small}
+use Rattle.framing.specs.Header.{fieldsAt, replyLen}
+use Rattle.framing.proofs.Headers.{reply-small}
 use Rattle.protocol.specs.Commands.{placeOf}
 use Rattle.client.specs.Replies.{Taking, takingAs, taking}
 use Rattle.client.proofs.Proved.{taken-whole}
@@ -56,7 +56,7 @@ part (h ∷ r) b c s w = let m = length-append r (b ∷ []) in let n = length-ap
 
 -- and has room for a byte
 short : (r s : List ℕ) (b : ℕ) → length (r ++ b ∷ s) ≡ 1 + bodyOf (r ++ b ∷ s) → length r < 129
-short r s b w = let l = body-small (getD (r ++ b ∷ s) 0 0) in let n = length-append r (b ∷ s) in omega arith
+short r s b w = let l = reply-small (getD (r ++ b ∷ s) 0 0) in let n = length-append r (b ∷ s) in omega arith
 
 hears : (job : Job) (k : ℕ) {s : List ℕ} {n : ℕ} {es : List Event} → Heard s n es → (rest : List Event) (r : List ℕ) (t : ℕ) (next : Next)
     → isOver next ≡ false → 0 < length s → length (r ++ s) ≡ 1 + bodyOf (r ++ s) → n < max 1 t
@@ -109,7 +109,7 @@ replied-next : (job : Job) (k : ℕ) (r : List ℕ) (t : ℕ)
 unfolding replied
 replied-next job k r t = rw (came r) (onward-next job (held k r t) (afterReply job k (taking (job .len) (job .id) k r)))
 
-pub reads : (job : Job) (k : ℕ) (r : List ℕ) → length r ≡ 1 + bodyLen (headerAt (getD r 0 0))
+pub reads : (job : Job) (k : ℕ) (r : List ℕ) → length r ≡ 1 + replyLen (fieldsAt (getD r 0 0))
     → runs job (turnOf (sentFrame job k) Send) (bytesOf r) .next ≡ afterReply job k (taking (job .len) (job .id) k r)
 reads job k r w =
     rw (← (append-nil (bytesOf r)), hears job k (all-bytes r) [] [] (job .wait) Send refl (omega arith) w (omega arith))

@@ -8,8 +8,8 @@ use mathlib.Core.List.{List, [], _∷_}
 use lib.ListN.{length, getD, set}
 use borrow.Author.Tests.{ltb-false}
 use Rattle.endian.proofs.Cases.{impossible}
-use Rattle.framing.specs.Header.{headerAt, bodyLen}
-use Rattle.framing.proofs.Headers.{body-small}
+use Rattle.framing.specs.Header.{fieldsAt, replyLen}
+use Rattle.framing.proofs.Headers.{reply-small}
 use Rattle.protocol.specs.Commands.{blocksFor}
 use Rattle.upload.specs.Upload.{isOver, opening, turned, runs, mostEvents}
 use Rattle.upload.proofs.Turns.{by-reply, by-event}
@@ -47,8 +47,8 @@ within job x e g =
     by-event job x e (λ (e : Event) (t : Turn). isOver (t .next) ≡ false → t .exchange .got ≤ 128)
     (λ why p. impossible cc)
     (λ b h w p.
-    let l = body-small (getD (set (x .reply) (x .got) b) 0 0) in
-    let m = ltb-false (bodyLen (headerAt (getD (set (x .reply) (x .got) b) 0 0))) (x .got + 1) w in
+    let l = reply-small (getD (set (x .reply) (x .got) b) 0 0) in
+    let m = ltb-false (replyLen (fieldsAt (getD (set (x .reply) (x .got) b) 0 0))) (x .got + 1) w in
     omega arith)
     (λ b h w. by-reply job _ (λ (t : Turn). isOver (t .next) ≡ false → t .exchange .got ≤ 128)
     (λ why p. impossible cc)

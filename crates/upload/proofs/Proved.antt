@@ -1,6 +1,6 @@
 -- The theorem of specs/Theorems.antt.
 use mathlib.Core.Path.{refl, ap}
-use Rattle.framing.specs.Header.{headerAt}
+use Rattle.framing.specs.Header.{fieldsAt}
 use Rattle.client.specs.Frames.{refusal}
 use Rattle.client.specs.Replies.{differenceIn, taking}
 use Rattle.upload.specs.Upload.{opening, replied, received, silent}
@@ -13,7 +13,7 @@ use Rattle.upload.proofs.Answered.{reads}
 use Rattle.upload.proofs.Loads.{loads}
 
 pub uploads : Uploads
-unfolding opening replied received silent taking refusal differenceIn headerAt
+unfolding opening replied received silent taking refusal differenceIn fieldsAt
 uploads = record {
   digests = λ program id wait h. ap (λ (j : Job). j .digest) (job-is program id wait h);
   ends = ends;
@@ -21,5 +21,5 @@ uploads = record {
   first = first;
   sends = sends;
   reads = reads;
-  example = (refl, refl, refl, refl, refl, refl);
+  example = (refl, refl, refl, refl, refl, refl, refl, refl);
 }

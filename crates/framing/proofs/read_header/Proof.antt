@@ -1,27 +1,24 @@
 -- Bits 7 and 2 decide; the fields are the definition's.
 use Prim.Native.Nat.{_/_}
-use mathlib.Core.Path.{_≡_}
+use mathlib.Core.Path.{_≡_, sym, _∙_}
 use native.Mathlib.Omega.{arith}
 use borrow.Author.Tests.{not-true, not-false}
 use borrow.Author.Needs.{needs}
-use Rattle.framing.specs.Header.{headerAt}
+use Rattle.framing.proofs.Headers.{good-fields, bad-at}
 use Rattle.framing.proofs.read_header.Statement.{statement}
 use Rattle.framing.proofs.read_header.Tie as tie
 
 returns : tie.Need-returns
-unfolding headerAt
-returns c = let g = c .before .is-good in rw (← (g .ensures), not-true (g .result) (c .if1 .taken))
+returns c = let g = c .before .is-good in rw (bad-at _ (sym (g .ensures) ∙ not-true (g .result) (c .if1 .taken)))
 
 returns-2 : tie.Need-returns-2
-unfolding headerAt
 returns-2 c =
     let w = c .before .before .before in
     let g = w .before .is-good in
     let b = w .before .before .args .b in
     let low : b / 1 ≡ b = omega arith in
     rw (
-      ← (g .ensures),
-      not-false (g .result) (w .if1 .left),
+      good-fields b (sym (g .ensures) ∙ not-false (g .result) (w .if1 .left)),
       c .before .before .frame-id .ensures,
       c .before .endpoint .ensures,
       c .body-length .ensures,

@@ -1,10 +1,13 @@
 -- Each return rewrites the definition with the tests that led to it: a number fits its field when it is at most 3.
-use Prim.Native.Nat.{_<_}
+use Prim.Native.Nat.{_<_, _≤_}
+use mathlib.Core.Path.{_≡_}
 use native.Mathlib.Omega.{arith}
 use native.Mathlib.Nat.{mul-one}
 use borrow.Author.Tests.{lt-ltb, le-ltb}
 use borrow.Author.Needs.{needs}
-use Rattle.framing.specs.Header.{headerByte}
+use Rattle.framing.specs.Header.{headerByte, codeOf}
+use Rattle.framing.specs.Answers.{statusNumber}
+use Rattle.framing.proofs.Headers.{written, status-small}
 use Rattle.framing.proofs.write_header.Statement.{statement}
 use Rattle.framing.proofs.write_header.Tie as tie
 
@@ -28,14 +31,20 @@ returns-3 c =
     simp (lt-ltb (a .id) 4 i, lt-ltb (a .endpoint) 4 e, ← c .before .before .before .length-code .ensures, le-ltb _ 4 (c .if3 .taken))
 
 returns-4 : tie.Need-returns-4
-unfolding headerByte
 returns-4 c =
-    let a = c .before .before .before .before .args in
-    let code = c .before .before .before .length-code .result in
+    let f = c .before .before .before .before in
+    let a = f .before .args in
+    let code = f .length-code in
     let i : a .id < 4 = omega arith in
     let e : a .endpoint < 4 = omega arith in
-    let l : code < 4 = omega arith in
-    simp (lt-ltb (a .id) 4 i, lt-ltb (a .endpoint) 4 e, ← c .before .before .before .length-code .ensures, lt-ltb code 4 l, mul-one)
+    let l : codeOf (a .len) < 4 = rw (← (code .ensures)) (omega arith) in
+    rw (c .status-number .ensures, code .ensures, written (a .id) (a .endpoint) (a .len) (statusNumber (a .status)) i e l (status-small (a .status)))
+
+-- the status is 0 or 1
+small : (c : tie.After-status-number) → c .status-number .result ≤ 1
+small c =
+    let k = status-small (c .before .before .before .before .before .args .status) in
+    rw (c .status-number .ensures) (omega arith)
 
 pub write-header-spec : {M : Type 1} → statement M
 write-header-spec =
@@ -48,5 +57,8 @@ write-header-spec =
     (λ c. search needs)
     (λ c. search needs)
     (λ c. search needs)
-    (λ c. search needs)
+    (λ c κs. search needs)
+    (λ c. let k = small c in search needs)
+    (λ c. let k = small c in search needs)
+    (λ c. let k = small c in search needs)
     returns-4)

@@ -1,4 +1,4 @@
--- Zeros with the code at the front are the code filled up with zeros.
+-- Code and status, and zeros behind them.
 use Rattle.protocol.specs.Replies.{blockReply}
 use borrow.Author.Needs.{needs}
 use Rattle.protocol.proofs.block_reply.Statement.{statement}
@@ -6,7 +6,7 @@ use Rattle.protocol.proofs.block_reply.Tie as tie
 
 returns : tie.Need-returns
 unfolding blockReply
-returns c = c .with-body .ensures
+returns c = c .with-status .ensures
 
 pub block-reply-spec : {M : Type 1} → statement M
-block-reply-spec = tie.close (tie.spec (λ c. search needs) (λ c κs. search needs) returns)
+block-reply-spec = tie.close (tie.spec (λ c κs. search needs) returns)

@@ -13,13 +13,12 @@ returns c =
     let s = c .before .before .before .before .before .args .t2 in
     let l : length s ≡ 32 = search needs in
     let e = c .before .before .copy .ensures .1 ∙ copied s (replicate 32 0) 32 l in
-    c .with-body .ensures ∙ rw (e, l)
+    c .with-status .ensures ∙ rw (e, l)
 
 pub digest-reply-spec : {M : Type 1} → statement M
 digest-reply-spec =
     tie.close
     (tie.spec
-    (λ c. search needs)
     (λ c. search needs)
     (λ c. search needs)
     (λ c. search needs)

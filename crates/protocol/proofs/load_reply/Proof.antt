@@ -1,4 +1,4 @@
--- Zeros with code and status at the front are these filled up with zeros.
+-- Code and status, and zeros behind them.
 use Rattle.protocol.specs.Replies.{loadReply}
 use borrow.Author.Needs.{needs}
 use Rattle.protocol.proofs.load_reply.Statement.{statement}
@@ -6,19 +6,11 @@ use Rattle.protocol.proofs.load_reply.Tie as tie
 
 returns : tie.Need-returns
 unfolding loadReply
-returns c = rw (c .before .if1 .taken) (c .with-body .ensures)
+returns c = rw (c .before .if1 .taken) (c .with-status .ensures)
 
 returns-2 : tie.Need-returns-2
 unfolding loadReply
-returns-2 c = rw (c .before .if1 .left) (c .with-body2 .ensures)
+returns-2 c = rw (c .before .if1 .left) (c .with-status2 .ensures)
 
 pub load-reply-spec : {M : Type 1} → statement M
-load-reply-spec =
-    tie.close
-    (tie.spec
-    (λ c. search needs)
-    (λ c κs. search needs)
-    returns
-    (λ c. search needs)
-    (λ c κs. search needs)
-    returns-2)
+load-reply-spec = tie.close (tie.spec (λ c κs. search needs) returns (λ c κs. search needs) returns-2)

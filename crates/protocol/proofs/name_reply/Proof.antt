@@ -1,5 +1,4 @@
 -- The bytes stand at the front, and what was not written is zero.
-use mathlib.Core.Path.{_∙_}
 use Rattle.protocol.specs.Replies.{nameReply}
 use borrow.Author.Needs.{needs}
 use Rattle.protocol.proofs.name_reply.Statement.{statement}
@@ -7,7 +6,7 @@ use Rattle.protocol.proofs.name_reply.Tie as tie
 
 returns : tie.Need-returns
 unfolding nameReply
-returns c = c .with-body .ensures ∙ rw (c .before .before .copy .ensures .1)
+returns c = rw (c .reply-header .ensures, c .before .before .copy .ensures .1)
 
 pub name-reply-spec : {M : Type 1} → statement M
 name-reply-spec =

@@ -13,13 +13,12 @@ returns c =
     let s = c .before .before .before .before .before .args .t2 in
     let l : length s ≡ 8 = search needs in
     let e = c .before .before .copy .ensures .1 ∙ copied s (replicate 8 0) 8 l in
-    c .with-body .ensures ∙ rw (e, l)
+    c .with-status .ensures ∙ rw (e, l)
 
 pub udi-reply-spec : {M : Type 1} → statement M
 udi-reply-spec =
     tie.close
     (tie.spec
-    (λ c. search needs)
     (λ c. search needs)
     (λ c. search needs)
     (λ c. search needs)

@@ -3,7 +3,7 @@ use Prim.Native.Nat.{_+_}
 use mathlib.Core.Path.{_≡_, sym, ap, _∙_}
 use mathlib.Core.Bool.{not, cond}
 use lib.Seq.{drop-drop}
-use borrow.Author.Tests.{eq-eqb, ne-eqb, lt-ltb, le-ltb}
+use borrow.Author.Tests.{eq-eqb, ne-eqb}
 use Rattle.endian.proofs.Lists.{drop-whole}
 use Rattle.client.specs.Replies.{allZero, fillerIn, differenceIn}
 use Rattle.client.proofs.Expected.{no-header}
@@ -36,10 +36,17 @@ returns-4 c =
 returns-5 : tie.Need-returns-5
 unfolding differenceIn
 returns-5 c =
-    let k = c .before .before in
+    let k = c .before .before .before .before in
     let l = k .before .before .before in
     let h = l .before .before in
-    rw (← (h .before .header-is .ensures), h .if2 .left, eq-eqb _ _ (l .if3 .left), eq-eqb _ _ (k .if4 .left), lt-ltb _ _ (c .if5 .taken))
+    rw (
+      ← (h .before .header-is .ensures),
+      h .if2 .left,
+      eq-eqb _ _ (l .if3 .left),
+      eq-eqb _ _ (k .if4 .left),
+      ← (c .before .status-agrees .ensures),
+      c .if5 .taken,
+    )
 
 -- all tests before the filler's
 module _ (z : tie.After-all-zero) where
@@ -47,7 +54,7 @@ module _ (z : tie.After-all-zero) where
   status-left = z .before .before .before
 
   abbrev code-left : tie.Else4
-  code-left = status-left .before .before
+  code-left = status-left .before .before .before .before
 
   abbrev length-left : tie.Else3
   length-left = code-left .before .before .before
@@ -71,7 +78,8 @@ module _ (z : tie.After-all-zero) where
         header-left .if2 .left,
         eq-eqb _ _ (length-left .if3 .left),
         eq-eqb _ _ (code-left .if4 .left),
-        le-ltb _ _ (status-left .if5 .left),
+        ← (status-left .before .status-agrees .ensures),
+        status-left .if5 .left,
         filler,
       )
 
@@ -94,6 +102,8 @@ difference-in-spec =
     (λ c. search needs)
     returns-4
     (λ c. search needs)
+    (λ c. search needs)
+    (λ c κs. search needs)
     returns-5
     (λ c. search needs)
     (λ c. search needs)
