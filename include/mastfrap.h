@@ -61,10 +61,10 @@ enum {
 
 enum {
     MASTFRAP_DIFFERENCE_NOTHING = 0,
-    MASTFRAP_DIFFERENCE_HEADER = 1, /* bit 7 or 2, frame ID, endpoint, length code; or reply_len is 0 */
+    MASTFRAP_DIFFERENCE_HEADER = 1, /* bit 7, frame ID, endpoint, length code; or reply_len is 0 */
     MASTFRAP_DIFFERENCE_LENGTH = 2, /* reply_len is not that of the whole frame */
     MASTFRAP_DIFFERENCE_CODE = 3,   /* the code is not the one that frame k asks for */
-    MASTFRAP_DIFFERENCE_STATUS = 4, /* the status is over 1 */
+    MASTFRAP_DIFFERENCE_STATUS = 4, /* the status byte is not bit 2 of the header */
     MASTFRAP_DIFFERENCE_FILLER = 5  /* a byte behind status and digest is not zero */
 };
 
@@ -98,8 +98,9 @@ uint32_t mastfrap_make_frame(const uint8_t *program, mastfrap_size program_len, 
 
 /*
  * Reads the reply to command frame k of a program of program_len bytes. It is taken exactly when it
- * is one whole frame with bits 7 and 2 of its header zero, the same frame ID, endpoint 2, the code
- * and length that frame k asks for, a status of 0 or 1, and zeros in what is left.
+ * is one whole frame with bit 7 of its header zero, the same frame ID, endpoint 2, the code and
+ * length that frame k asks for, a status of 0 or 1 that bit 2 of the header has too, and zeros in
+ * what is left.
  *
  * If it is taken, *status is the status, and digest the program's digest as the head measured it if
  * frame k is the last, or else 32 zeros. Status 1 for the load says that the head has not the RAM
@@ -227,7 +228,8 @@ uint32_t mastfrap_gather(uint32_t numbers[MASTFRAP_STATE_NUMBERS], uint8_t bytes
  * Acts on the frame that is whole. ram is as long as at begin, and holds what the last call left there.
  *
  * Unless the call is refused, *reply_len says how many bytes at the front of room are a reply, 0 for none,
- * and the rest of room stays; numbers, bytes, start, cdi, digest and uds are written by the rule of begin.
+ * and the rest of room stays; bit 2 of a reply's header, its first byte, is set exactly where the frame is
+ * a load that is not taken. numbers, bytes, start, cdi, digest and uds are written by the rule of begin.
  */
 uint32_t mastfrap_act(uint32_t numbers[MASTFRAP_STATE_NUMBERS], uint8_t bytes[MASTFRAP_STATE_BYTES],
                       uint8_t *room, mastfrap_size room_len, uint8_t *ram, mastfrap_size ram_len,

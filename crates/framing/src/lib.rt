@@ -22,7 +22,12 @@ pub enum Header {
 // What the header of a reply says.
 pub enum ReplyHeader {
     // Bit 7 is zero; bit 2 is the status.
-    Good { id: u8, endpoint: u8, len: u8, status: Status },
+    Good {
+        id: u8,
+        endpoint: u8,
+        len: u8,
+        status: Status,
+    },
     // Bit 7 is set.
     Bad,
 }
@@ -78,10 +83,10 @@ pub fn endpoint(b: u8) -> u8
 pub fn status_in(b: u8) -> Status
     ensures { λ r. ⌜ statusNumber r ≡ inField status b ⌝ }
 {
-    if b / 4 % 2 == 0 {
-        return Status::Good;
+    if b / 4 % 2 != 0 {
+        return Status::Bad;
     }
-    Status::Bad
+    Status::Good
 }
 
 // The bit that stands for a status; a reply's status byte is the same number.

@@ -1,7 +1,7 @@
 -- The theorem of specs/Theorems.antt. Each claim about a call is shown for each way that it can go (`by-begin`, `by-gather`, `by-act`).
 use Prim.Native.Nat.{ℕ, _+_, _≤_}
 use mathlib.Core.Bool.{Bool, true, false, cond}
-use mathlib.Core.Path.{_≡_, refl, sym, ap, subst, _∙_}
+use mathlib.Core.Path.{_≡_, refl, sym, ap, _∙_}
 use mathlib.Core.Logic.{_⊎_, inl, inr, ⊎-elim}
 use mathlib.Core.List.{List, []}
 use native.Mathlib.Omega.{arith}
@@ -23,12 +23,12 @@ use Rattle.head.specs.Theorems.{HeadTheorems, withUds, withCdi, changed}
 use Rattle.head.proofs.Ranges.{never, by-test, fit-facts, range-facts, in-range, ram-ok}
 use Rattle.head.proofs.Admitted.{act-admitted}
 use Rattle.head.proofs.Ways.{begunWith, by-secret, begin-called, by-begin, by-gather, Writes, called, by-words, act-called, by-act}
-use Rattle.protocol.specs.Theorems.{StatusTold, IsReply}
 use Rattle.protocol.specs.Theorems as theorems
 use Rattle.protocol.proofs.Proved.{protocol}
 use Rattle.protocol.specs.Replies.{sent, digestReply, putIn}
 use Rattle.protocol.specs.declared.Reply.{Reply}
 use Rattle.head.proofs.Frames.{frame-whole, passed-over}
+use Rattle.head.proofs.Statuses.{told, shows}
 use Rattle.head.specs.declared.Phase.{Phase}
 use Rattle.head.specs.declared.Phase.the-variants as phase
 use Rattle.head.specs.declared.Incoming.{Incoming}
@@ -296,30 +296,6 @@ module _ (s : State) (room ram uds : List ℕ) where
         progress = λ r f p ram1 o v y. after-reply r (r .len + 1) (protocol .lengths r f .1);
         start = λ d ram1 y. after-digest (s .incoming .header) d;
         fail = λ d ram1 y. after-digest (s .incoming .header) d;
-      })
-
-  abbrev Told : Outcome → Type 0
-  Told o = 1 ≤ o .reply → StatusTold (take (o .reply) (o .room))
-
-  told-by : (r : Reply) → IsReply r → (n : ℕ) → length (sent r) ≡ n → StatusTold (take n (putIn room (sent r)))
-  unfolding putIn
-  told-by r i n e = subst StatusTold (sym (take-at (sent r) (drop (length (sent r)) room) n e)) (protocol .told r i)
-
-  digest-told : (h : ℕ) (d : List ℕ) → StatusTold (take 129 (putIn room (sent (digestReply h d))))
-  unfolding digestReply
-  digest-told h d = told-by (digestReply h d) (theorems.digest h d) 129 (protocol .lengths _ (theorems.digest h d) .1)
-
-  told : Told out
-  unfolding starting
-  told =
-      by-act s room ram uds Told
-      (record {
-        refused = λ k e n z. absurd (omega arith);
-        halt = λ k n z. absurd (omega arith);
-        reply = λ r f z. told-by r f (r .len + 1) (protocol .lengths r f .1);
-        progress = λ r f p ram1 o v y z. told-by r f (r .len + 1) (protocol .lengths r f .1);
-        start = λ d ram1 y z. digest-told (s .incoming .header) d;
-        fail = λ d ram1 y z. digest-told (s .incoming .header) d;
       })
 
   goes-on : out .report ≡ continues
@@ -735,6 +711,7 @@ head-theorems = record {
     fits = fits s room ram uds;
     beyond = beyond s room ram uds;
     told = told s room ram uds;
+    shows = shows s room ram uds;
     beyond-block = beyond-block s room ram uds;
     without-reply = without-reply s room ram uds;
     goes-on = goes-on s room ram uds;

@@ -94,7 +94,7 @@ reply-lengths _ (block h) = (omega arith, refl)
 reply-lengths _ (digest h d) = framed h 128 0x07 0 d (omega arith)
 
 -- bit 2 of the header that is written for a status
-bit-is : (h n s : ℕ) → codeOf n < 4 → s ≤ 1 → bit 2 (replyHeader h n s) ≡ s
+pub bit-is : (h n s : ℕ) → codeOf n < 4 → s ≤ 1 → bit 2 (replyHeader h n s) ≡ s
 bit-is h n s c t = sym (headers .status _ _ _ _ _ (reply-header h n s c t))
 
 -- a reply with a status tells it

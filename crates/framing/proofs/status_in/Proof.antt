@@ -1,4 +1,4 @@
--- Bit 2 is 0, or it is 1.
+-- A bit that is not 0 is 1.
 use Prim.Native.Nat.{_/_, _%_}
 use mathlib.Core.Path.{_≡_}
 use native.Mathlib.Omega.{arith}
@@ -6,13 +6,13 @@ use Rattle.framing.proofs.status_in.Statement.{statement}
 use Rattle.framing.proofs.status_in.Tie as tie
 
 returns : tie.Need-returns
-returns c = rw (c .if1 .taken)
+returns c =
+    let b = c .before .args .b in
+    let e : b / 4 % 2 ≡ 1 = omega (arith, c .if1 .taken) in
+    rw e
 
 returns-2 : tie.Need-returns-2
-returns-2 c =
-    let b = c .before .args .b in
-    let e : b / 4 % 2 ≡ 1 = omega (arith, c .if1 .left) in
-    rw e
+returns-2 c = rw (c .if1 .left)
 
 pub status-in-spec : {M : Type 1} → statement M
 status-in-spec = tie.close (tie.spec returns returns-2)
