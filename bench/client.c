@@ -71,8 +71,9 @@ int main(void)
         program[i] = (uint8_t)(i * 7 + (i >> 8));
     memset(uss, 0x5a, sizeof uss);
     for (int k = 0; k < FRAMES; k++) {
-        replies[k][0] = (uint8_t)(1 << 5 | 2 << 3 | (k == FRAMES - 1 ? 3 : 1));
+        replies[k][0] = (uint8_t)(1 << 5 | 2 << 3 | (k & 1) << 2 | (k == FRAMES - 1 ? 3 : 1));
         replies[k][1] = k == 0 ? 4 : k == FRAMES - 1 ? 7 : 6;
+        replies[k][2] = k & 1;
         memset(replies[k] + 3, k == FRAMES - 1 ? 0xd1 : 0, 32);
     }
     printf("%-12s %16s %22s\n", "call", "ns, proved", "time / C at gcc -O3");

@@ -30,11 +30,12 @@ BOARD = ["board", "uart_read", "uart_write", "lamp", "run"]  # of firmware/board
 EMULATOR = "qemu-riscv32"
 TRACED = re.compile(rb"Trace .*\[[0-9a-f]+/([0-9a-f]+)/")  # an instruction that was executed, by its address
 
-# ---- the session that is traced: a query, a frame that is passed over, and a load of eight blocks, at all places within a word
+# ---- the session that is traced: a query, a frame that is passed over, a load that is not taken, and one of eight blocks, at all places
+# within a word
 
 PROGRAM = bytes((7 * i + 3) % 256 for i in range(8 * 127))
 PASSED_OVER = items.frame(bytes(128), endpoint=3)
-FRAMES = [items.frame(b"\x01"), PASSED_OVER, items.load(len(PROGRAM), 1, items.USS), *items.blocks(PROGRAM)]
+FRAMES = [items.frame(b"\x01"), PASSED_OVER, items.load(0, frame_id=1), items.load(len(PROGRAM), 1, items.USS), *items.blocks(PROGRAM)]
 SESSION = items.record(4) + items.UDS + items.UDI + b"".join(FRAMES)
 
 
@@ -46,7 +47,7 @@ def byte_kinds():
         yield "the last byte of a frame that is passed over" if f is PASSED_OVER else "the last byte of a frame"
 
 
-ACT_KINDS = ["acting on a query", "acting on a load", *[BLOCK] * 7, "acting on the last block, of a program of 1,016 bytes"]
+ACT_KINDS = ["acting on a query", *["acting on a load"] * 2, *[BLOCK] * 7, "acting on the last block, of a program of 1,016 bytes"]
 BEGIN_KIND = "begin, of a record of type 4"
 
 

@@ -254,11 +254,12 @@ LINES = [
     ("another code", at(1, put(1, 0x04)), 7, unexpected(1, "code differs", "1104000000"), 2, {}),
     ("status 2", at(1, put(2, 2)), 7, unexpected(1, DISAGREES, "1106020000"), 2, {}),
     ("status 2 to the load", at(0, put(2, 2)), 7, unexpected(0, DISAGREES, "1104020000"), 1, {}),
-    ("filler differs", at(1, put(4, 1)), 7, unexpected(1, "filler differs", "1106000001"), 2, {}),
+    ("filler", at(1, put(4, 1)), 7, unexpected(1, "filler differs", "1106000001"), 2, {}),
     ("filler behind the digest", at(3, put(128, 9)), 7, unexpected(3, "filler differs", put(128, 9)(last).hex()), 4, {}),
     ("a byte too many", at(1, lambda reply: reply + b"\0"), 7, unexpected(2, "header differs", "0011"), 3, {}),
     ("status 1 to the load", at(0, refused(0)), 8, failed("the program does not fit this head's RAM (status 1); load a smaller one"), 1, {}),
     ("status 1 to a block", at(2, refused(2)), 8, failed(f"the head refused {name_of(2)} (status 1){AGAIN}"), 3, {}),
+    ("status 1 to the last block", at(3, refused(3)), 8, failed(f"the head refused {name_of(3)} (status 1){AGAIN}"), 4, {}),
     ("another digest", at(3, lambda reply: server.reply(300, 0, 3, 0, other)), 9,
      failed(f"the head measured another digest, {other.hex()}; it has not this program, and if it is of type 4 it has started another: "
             "reset the head and load again"), 4, {}),

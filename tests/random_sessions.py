@@ -30,6 +30,7 @@ STARTS = [f"type {t}, {d}, {u}" for t in (4, 5) for d in ("direct", "chained") f
 REPLIES = {"0274": "name", "0900": "UDI", "0400": "load taken", "0401": "load not taken", "0600": "block", "0700": "last block"}
 EDGES = [f"start of size {n}" for n in SIZES + LARGE_SIZES] + [f"stop at type {t}" for t in STOPPING_TYPES]
 EDGES += [f"start after size {n}" for n in BAD_SIZES] + [f"start after flag {k}" for k in BAD_FLAGS] + ["block after a bad flag"]
+EDGES += [f"not taken, header {h}" for h in ("15", "35", "55", "75")]
 
 
 def play(command, data):
@@ -66,8 +67,10 @@ def show(line):
 
 
 def kinds(s, lines):
-    """The kinds that a session counts for: its replies by code and status, and how it ends."""
-    return [REPLIES[line[4:8]] for line in lines[:-1]] + end_kinds(s, lines[-1])
+    """The kinds that a session counts for: its replies by code and status, the headers of those with status 1, and how it ends."""
+    replies = lines[:-1]
+    headers = [f"not taken, header {line[2:4]}" for line in replies if line[4:8] == "0401"]
+    return [REPLIES[line[4:8]] for line in replies] + headers + end_kinds(s, lines[-1])
 
 
 def end_kinds(s, last):

@@ -5,14 +5,13 @@ use mathlib.Core.Bool.{Bool, true, false, not, cond, _&&_}
 use mathlib.Core.List.{List, [], _∷_}
 use native.Mathlib.Omega.{arith}
 use lib.Dec.{eqb}
-use lib.ListN.{length, getD}
+use lib.ListN.{length}
 use borrow.Author.Tests.{eqb-true, eq-eqb}
 use Rattle.endian.proofs.Cases.{impossible}
 use Rattle.framing.specs.Header.{codeOf, fieldsAt}
-use Rattle.framing.specs.Theorems.{bit}
 use Rattle.protocol.specs.Commands.{isLast}
-use Rattle.protocol.specs.Replies.{codeIn, statusIn}
-use Rattle.client.specs.Replies.{expectedReply, headerIs, statusAgrees, allZero, fillerIn, differenceIn}
+use Rattle.protocol.specs.Replies.{headerIn, codeIn, statusIn}
+use Rattle.client.specs.Replies.{expectedReply, headerIs, statusIs, allZero, fillerIn, differenceIn}
 use Rattle.client.specs.declared.Difference.the-variants.{Nothing, Header, Length, Code, Status, Filler}
 use Rattle.client.specs.declared.replies.Expected.{Expected}
 
@@ -37,25 +36,25 @@ and-false true = refl
 and-false false = refl
 
 -- a reply without a byte has not the header that is expected
-pub no-header : (id n : ℕ) (r : List ℕ) → length r ≡ 0 → headerIs (fieldsAt (getD r 0 0)) id n ≡ false
+pub no-header : (id n : ℕ) (r : List ℕ) → length r ≡ 0 → headerIs (fieldsAt (headerIn r)) id n ≡ false
 unfolding fieldsAt
 no-header id n [] e = and-false (eqb 0 id)
 no-header id n (b ∷ r) e = absurd (omega arith)
 
 -- what a reply that differs in nothing is
 pub record Passes (x : Expected) (id : ℕ) (r : List ℕ) : Type 0 where
-  pub header : headerIs (fieldsAt (getD r 0 0)) id (x .len) ≡ true
+  pub header : headerIs (fieldsAt (headerIn r)) id (x .len) ≡ true
   pub whole : length r ≡ 1 + x .len
   pub code : codeIn r ≡ x .code
-  pub status : statusIn r ≡ bit 2 (getD r 0 0)
+  pub status : statusIs (fieldsAt (headerIn r)) (statusIn r) ≡ true
   pub filler : allZero (fillerIn x r) ≡ true
 
 pub passes : (x : Expected) (id : ℕ) (r : List ℕ) → differenceIn x id r ≡ Nothing → Passes x id r
 unfolding differenceIn
 passes x id r = go _ _ _ _ _ refl refl refl refl refl
   where
-    go : (a b c d e : Bool) → headerIs (fieldsAt (getD r 0 0)) id (x .len) ≡ a → eqb (length r) (1 + x .len) ≡ b → eqb (codeIn r) (x .code) ≡ c
-        → statusAgrees (getD r 0 0) (statusIn r) ≡ d → allZero (fillerIn x r) ≡ e
+    go : (a b c d e : Bool) → headerIs (fieldsAt (headerIn r)) id (x .len) ≡ a → eqb (length r) (1 + x .len) ≡ b → eqb (codeIn r) (x .code) ≡ c
+        → statusIs (fieldsAt (headerIn r)) (statusIn r) ≡ d → allZero (fillerIn x r) ≡ e
         → cond (not a) Header (cond (not b) Length (cond (not c) Code (cond (not d) Status (cond (not e) Filler Nothing)))) ≡ Nothing → Passes x id r
     go false b c d e ea eb ec ed ee q = impossible cc
     go true false c d e ea eb ec ed ee q = impossible cc
@@ -63,8 +62,8 @@ passes x id r = go _ _ _ _ _ refl refl refl refl refl
     go true true true false e ea eb ec ed ee q = impossible cc
     go true true true true false ea eb ec ed ee q = impossible cc
     go true true true true true ea eb ec ed ee q =
-        record { header = ea; whole = eqb-true _ _ eb; code = eqb-true _ _ ec; status = eqb-true _ _ ed; filler = ee }
+        record { header = ea; whole = eqb-true _ _ eb; code = eqb-true _ _ ec; status = ed; filler = ee }
 
 pub passed : (x : Expected) (id : ℕ) (r : List ℕ) → Passes x id r → differenceIn x id r ≡ Nothing
 unfolding differenceIn
-passed x id r p = rw (p .header, eq-eqb _ _ (p .whole), eq-eqb _ _ (p .code), eq-eqb _ _ (p .status), p .filler)
+passed x id r p = rw (p .header, eq-eqb _ _ (p .whole), eq-eqb _ _ (p .code), p .status, p .filler)

@@ -3,10 +3,10 @@ use Prim.Native.Nat.{ℕ, _+_, _-_}
 use mathlib.Core.Bool.{Bool, true, false, not, cond, _&&_}
 use mathlib.Core.List.{List, [], _∷_}
 use lib.Dec.{eqb}
-use lib.ListN.{length, getD, take, drop}
-use Rattle.framing.specs.Header.{Fields, fields, bad, fieldsAt, status, inField}
+use lib.ListN.{length, take, drop}
+use Rattle.framing.specs.Header.{Fields, fields, bad, fieldsAt}
 use Rattle.protocol.specs.Commands.{firmware, isLast}
-use Rattle.protocol.specs.Replies.{codeIn, statusIn}
+use Rattle.protocol.specs.Replies.{headerIn, codeIn, statusIn}
 use Rattle.endian.specs.Lists.{padded, zeros}
 use Rattle.client.specs.Answers.{numberOf, differenceNumber}
 use Rattle.client.specs.Frames.{refusal}
@@ -27,9 +27,10 @@ abbrev pub headerIs : Fields → ℕ → ℕ → Bool
 headerIs (fields i ep n s) id len = eqb i id && (eqb ep firmware && eqb n len)
 headerIs bad id len = false
 
--- the status byte and bit 2 of the header are the same, so that the status is 0 or 1
-abbrev pub statusAgrees : ℕ → ℕ → Bool
-statusAgrees header s = eqb s (inField status header)
+-- the status byte is the header's status, so it is 0 or 1
+abbrev pub statusIs : Fields → ℕ → Bool
+statusIs (fields i ep n s) byte = eqb byte s
+statusIs bad byte = false
 
 abbrev pub allZero : List ℕ → Bool
 allZero [] = true
@@ -45,10 +46,10 @@ fillerIn x r = drop (x .digest) (drop 3 r)
 -- the first test that a reply fails; one without a byte fails that of the header, since 0 is a header of endpoint 0
 unfoldable pub differenceIn : Expected → ℕ → List ℕ → Difference
 differenceIn x id r =
-    cond (not (headerIs (fieldsAt (getD r 0 0)) id (x .len))) Header
+    cond (not (headerIs (fieldsAt (headerIn r)) id (x .len))) Header
     (cond (not (eqb (length r) (1 + x .len))) Length
     (cond (not (eqb (codeIn r) (x .code))) Code
-    (cond (not (statusAgrees (getD r 0 0) (statusIn r))) Status
+    (cond (not (statusIs (fieldsAt (headerIn r)) (statusIn r))) Status
     (cond (not (allZero (fillerIn x r))) Filler Nothing))))
 
 -- then it is one whole frame with the expected header and code, a status of 0 or 1 that its header tells too, and zero filler

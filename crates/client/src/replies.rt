@@ -4,7 +4,7 @@ ghost use Prim.Native.Nat.{_+_, _≤_};
 ghost use lib.ListN.{length};
 ghost use Rattle.framing.specs.Header.{fieldsAt};
 ghost use Rattle.client.specs.Answers.{numberOf};
-ghost use Rattle.client.specs.Replies.{expectedReply, headerIs, statusAgrees, allZero, differenceIn, digestIn, takingOf, refusedWith};
+ghost use Rattle.client.specs.Replies.{expectedReply, headerIs, statusIs, allZero, differenceIn, digestIn, takingOf, refusedWith};
 use super::Answer;
 use super::Difference;
 use super::Taken;
@@ -59,10 +59,18 @@ fn header_is(b: u8, id: u8, len: usize) -> bool
 }
 
 // Whether a status byte is the status that the header has.
-fn status_agrees(header: u8, byte: u8) -> bool
-    ensures { λ r. ⌜ r ≡ statusAgrees header byte ⌝ }
+fn status_is(header: u8, byte: u8) -> bool
+    ensures { λ r. ⌜ r ≡ statusIs (fieldsAt header) byte ⌝ }
 {
-    byte == framing::status_number(framing::status_in(header))
+    match framing::read_reply_header(header) {
+        framing::ReplyHeader::Bad => false,
+        framing::ReplyHeader::Good {
+            id: _,
+            endpoint: _,
+            len: _,
+            status,
+        } => byte == framing::status_number(status),
+    }
 }
 
 // Whether every byte is zero.
@@ -96,7 +104,7 @@ pub fn difference_in(x: Expected, id: u8, reply: &[u8]) -> Difference
     if reply[1] != x.code {
         return Difference::Code;
     }
-    if !status_agrees(reply[0], reply[2]) {
+    if !status_is(reply[0], reply[2]) {
         return Difference::Status;
     }
     if !all_zero(&reply[3 + x.digest..]) {

@@ -11,7 +11,7 @@ use lib.Dec.{eqb, ltb}
 use lib.ListN.{length, getD}
 use borrow.Author.Tests.{eq-eqb, eqb-true, eqb-false, lt-ltb, ltb-true, ltb-false}
 use Rattle.endian.proofs.Cases.{impossible}
-use Rattle.framing.specs.Header.{indexOf, lengthOf, codeOf, Fields, fields, bad, fieldsAt, Reading, good, stop, asCommand, headerAt, Writing, byte, refused, headerByte, replyLen, isGood, bodyLen, inField, frameId, endpoint, lengthCode}
+use Rattle.framing.specs.Header.{indexOf, lengthOf, codeOf, Fields, fields, bad, fieldsAt, Reading, good, stop, asCommand, headerAt, Writing, byte, refused, headerByte, replyBodyLen, isGood, bodyLen, inField, frameId, endpoint, lengthCode}
 use Rattle.framing.specs.Answers.{statusNumber, readingOf, fieldsOf, writingOf}
 use Rattle.framing.specs.Theorems.{Headers, bit}
 use Rattle.framing.specs.declared.Header.{Header}
@@ -130,15 +130,14 @@ module _ (b : ℕ) where
       go p true q = f p (eqb-true (b / 4 % 2) 0 q)
       go p false q = g (inr (omega (arith, eqb-false (b / 4 % 2) 0 q)))
 
--- and by the test of both
+-- a good header of a command, and a bad one
 pub good-fields : (h : ℕ) → isGood (headerAt h) ≡ true → headerAt h ≡ good (inField frameId h) (inField endpoint h) (lengthOf (inField lengthCode h))
 good-fields h =
     by-bits h (λ (x : Reading). isGood x ≡ true → x ≡ good (inField frameId h) (inField endpoint h) (lengthOf (inField lengthCode h))) (λ p q e. refl)
     (λ g e. impossible cc)
 
 pub good-at : (h : ℕ) → isGood (headerAt h) ≡ true → headerAt h ≡ good (inField frameId h) (inField endpoint h) (bodyLen (headerAt h))
-good-at h =
-    by-bits h (λ (x : Reading). isGood x ≡ true → x ≡ good (inField frameId h) (inField endpoint h) (bodyLen x)) (λ p q e. refl) (λ g e. impossible cc)
+good-at h e = rw (good-fields h e)
 
 pub bad-at : (h : ℕ) → isGood (headerAt h) ≡ false → headerAt h ≡ stop 22
 bad-at h = by-bits h (λ (x : Reading). isGood x ≡ false → x ≡ stop 22) (λ p q e. impossible cc) (λ g e. refl)
@@ -154,8 +153,8 @@ length-small (suc (suc (suc (suc c)))) h = absurd (omega arith)
 pub body-small : (h : ℕ) → bodyLen (headerAt h) ≤ 128
 body-small h = by-bits h (λ (r : Reading). bodyLen r ≤ 128) (λ p q. length-small (h / 1 % 4) (omega arith)) (λ g. omega arith)
 
-pub reply-small : (h : ℕ) → replyLen (fieldsAt h) ≤ 128
-reply-small h = by-bit h (λ (r : Fields). replyLen r ≤ 128) (λ p. length-small (h / 1 % 4) (omega arith)) (λ g. omega arith)
+pub reply-small : (h : ℕ) → replyBodyLen (fieldsAt h) ≤ 128
+reply-small h = by-bit h (λ (r : Fields). replyBodyLen r ≤ 128) (λ p. length-small (h / 1 % 4) (omega arith)) (λ g. omega arith)
 
 -- the fields of a good byte
 pub fields-of : (b id ep n : ℕ) → headerAt b ≡ good id ep n → (inField frameId b ≡ id) × (inField endpoint b ≡ ep)

@@ -69,16 +69,17 @@ pub data Fields : Type 0 where
   -- bit 7 is set
   bad : Fields
 
+-- by the table; a reply's header is read so and no further
 unfoldable pub fieldsAt : ℕ → Fields
 fieldsAt b =
     cond (eqb (inField reserved b) 0)
     (fields (inField frameId b) (inField endpoint b) (lengthOf (inField lengthCode b)) (inField status b))
     bad
 
--- the length of a reply's body by its header; 0 where bit 7 is set
-abbrev pub replyLen : Fields → ℕ
-replyLen (fields id ep n s) = n
-replyLen bad = 0
+-- the body's length that a reply's header gives; 0 for a bad one
+abbrev pub replyBodyLen : Fields → ℕ
+replyBodyLen (fields id ep n s) = n
+replyBodyLen bad = 0
 
 -- what reading the header of a command reports
 pub data Reading : Type 0 where
@@ -87,11 +88,12 @@ pub data Reading : Type 0 where
   -- the number of the stop that a bad header is
   stop : ℕ → Reading
 
--- a command's bit 2 must be zero too
+-- a set bit 7 or bit 2 stops the head
 abbrev pub asCommand : Fields → Reading
 asCommand (fields id ep n s) = cond (eqb s 0) (good id ep n) (stop 22)
 asCommand bad = stop 22
 
+-- a command's header
 unfoldable pub headerAt : ℕ → Reading
 headerAt b = asCommand (fieldsAt b)
 

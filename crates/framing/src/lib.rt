@@ -2,10 +2,11 @@
 // Document 01, "Header byte", and change request 5 in the terms of specs/Header.antt.
 ghost use mathlib.Core.Path.{_≡_};
 ghost use Prim.Native.Nat.{_<_};
-ghost use Rattle.framing.specs.Header.{frameId, endpoint, status, inField, fieldsAt, replyLen, headerAt, headerByte, lengthOf, codeOf, isGood, bodyLen};
+ghost use Rattle.framing.specs.Header.{frameId, endpoint, status, inField, fieldsAt, replyBodyLen, headerAt, headerByte, lengthOf, codeOf, isGood, bodyLen};
 ghost use Rattle.framing.specs.Answers.{statusNumber, readingOf, fieldsOf, writingOf};
 
-// The status of a reply: whether the head has done what the command asked for. A command has status Good.
+// The status of a reply: whether the head has done what the command asked for. A command, and a reply without a status, is written with
+// Good.
 pub enum Status {
     Good,
     Bad,
@@ -79,8 +80,8 @@ pub fn endpoint(b: u8) -> u8
     b / 8 % 4
 }
 
-// The status in the header of a reply.
-pub fn status_in(b: u8) -> Status
+// The status that bit 2 of a reply's header stands for.
+fn header_status(b: u8) -> Status
     ensures { λ r. ⌜ statusNumber r ≡ inField status b ⌝ }
 {
     if b / 4 % 2 != 0 {
@@ -134,7 +135,7 @@ pub fn read_reply_header(b: u8) -> ReplyHeader
         id: frame_id(b),
         endpoint: endpoint(b),
         len: body_length(b % 4),
-        status: status_in(b),
+        status: header_status(b),
     }
 }
 
@@ -149,13 +150,18 @@ pub fn body_len(header: u8) -> u8
 }
 
 // The length of the body that a reply's header gives; 0 for a bad one.
-pub fn reply_len(header: u8) -> u8
-    ensures { λ r. ⌜ r ≡ replyLen (fieldsAt header) ⌝ }
+pub fn reply_body_len(header: u8) -> u8
+    ensures { λ r. ⌜ r ≡ replyBodyLen (fieldsAt header) ⌝ }
 {
-    if header / 128 % 2 != 0 {
-        return 0;
+    match read_reply_header(header) {
+        ReplyHeader::Good {
+            id: _,
+            endpoint: _,
+            len,
+            status: _,
+        } => len,
+        ReplyHeader::Bad => 0,
     }
-    body_length(header % 4)
 }
 
 // Makes a header byte, with bit 7 zero and the status as bit 2.

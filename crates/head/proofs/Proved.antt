@@ -23,7 +23,7 @@ use Rattle.head.specs.Theorems.{HeadTheorems, withUds, withCdi, changed}
 use Rattle.head.proofs.Ranges.{never, by-test, fit-facts, range-facts, in-range, ram-ok}
 use Rattle.head.proofs.Admitted.{act-admitted}
 use Rattle.head.proofs.Ways.{begunWith, by-secret, begin-called, by-begin, by-gather, Writes, called, by-words, act-called, by-act}
-use Rattle.protocol.specs.Theorems as theorems
+use Rattle.protocol.specs.Theorems.{isDigest}
 use Rattle.protocol.proofs.Proved.{protocol}
 use Rattle.protocol.specs.Replies.{sent, digestReply, putIn}
 use Rattle.protocol.specs.declared.Reply.{Reply}
@@ -283,7 +283,7 @@ module _ (s : State) (room ram uds : List ℕ) where
 
   after-digest : (h : ℕ) (d : List ℕ) → drop 129 (putIn room (sent (digestReply h d))) ≡ drop 129 room
   unfolding digestReply
-  after-digest h d = after-reply (digestReply h d) 129 (protocol .lengths _ (theorems.digest h d) .1)
+  after-digest h d = after-reply (digestReply h d) 129 (protocol .lengths _ (isDigest h d) .1)
 
   beyond : Beyond out
   unfolding starting

@@ -1,20 +1,20 @@
 -- The status of a reply: that header and status byte say the same, and which replies say that it is bad.
 use Prim.Native.Nat.{ℕ, _+_, _≤_, _<_}
 use mathlib.Core.Bool.{Bool, true, false, cond}
-use mathlib.Core.Path.{_≡_, refl, sym, subst, _∙_}
+use mathlib.Core.Path.{_≡_, refl, sym, subst}
 use mathlib.Core.Logic.{_↔_}
 use mathlib.Core.List.{List}
 use native.Mathlib.Omega.{arith}
 use lib.Dec.{eqb}
-use lib.ListN.{length, getD, take, drop}
+use lib.ListN.{length, take, drop}
 use lib.Seq.{take-at}
 use Rattle.endian.proofs.Cases.{impossible}
 use Rattle.framing.specs.Header.{codeOf}
 use Rattle.framing.specs.Theorems.{bit}
+use Rattle.framing.specs.declared.Status.the-variants.{Good, Bad}
 use Rattle.protocol.specs.Commands.{isLast}
-use Rattle.protocol.specs.Replies.{replyHeader, sent, putIn, nameReply, udiReply, loadReply, blockReply, digestReply}
-use Rattle.protocol.specs.Theorems.{StatusTold, IsReply}
-use Rattle.protocol.specs.Theorems as theorems
+use Rattle.protocol.specs.Replies.{replyHeader, sent, headerIn, putIn, nameReply, udiReply, loadReply, blockReply, digestReply}
+use Rattle.protocol.specs.Theorems.{StatusTold, IsReply, isDigest}
 use Rattle.protocol.proofs.Proved.{protocol, bit-is}
 use Rattle.protocol.specs.declared.Reply.{Reply}
 use Rattle.head.specs.Answers.{Outcome}
@@ -34,7 +34,7 @@ module _ (s : State) (room ram uds : List ℕ) where
 
   digest-told : (h : ℕ) (d : List ℕ) → StatusTold (take 129 (putIn room (sent (digestReply h d))))
   unfolding digestReply
-  digest-told h d = told-by (digestReply h d) (theorems.digest h d) 129 (protocol .lengths _ (theorems.digest h d) .1)
+  digest-told h d = told-by (digestReply h d) (isDigest h d) 129 (protocol .lengths _ (isDigest h d) .1)
 
   pub told : Told (acted s room ram uds)
   unfolding starting
@@ -55,15 +55,15 @@ module _ (s : State) (room ram uds : List ℕ) where
   h = s .incoming .header
 
   abbrev Shows : Request → Outcome → Type 0
-  Shows r o = 1 ≤ o .reply → (bit 2 (getD (o .room) 0 0) ≡ 1) ↔ ((r ≡ givesLoad) × (takes s ≡ false))
+  Shows r o = 1 ≤ o .reply → (bit 2 (headerIn (o .room)) ≡ 1) ↔ ((r ≡ givesLoad) × (takes s ≡ false))
 
-  -- a reply with status 0, or without one, to anything but a load
-  good-shown : (r : Request) (n : ℕ) → codeOf n < 4 → (r ≡ givesLoad → ⊥) → (bit 2 (replyHeader h n 0) ≡ 1) ↔ ((r ≡ givesLoad) × (takes s ≡ false))
-  good-shown r n c d = (λ e. absurd (let z = bit-is h n 0 c (omega arith) in omega arith), λ e. absurd (d (e .0)))
+  -- a reply with a good status, or without one, to anything but a load
+  good-shown : (r : Request) (n : ℕ) → codeOf n < 4 → (r ≡ givesLoad → ⊥) → (bit 2 (replyHeader h n Good) ≡ 1) ↔ ((r ≡ givesLoad) × (takes s ≡ false))
+  good-shown r n c d = (λ e. absurd (let z = bit-is h n Good c in omega arith), λ e. absurd (d (e .0)))
 
-  load-shown : (t : Bool) → (bit 2 (replyHeader h 4 (cond t 0 1)) ≡ 1) ↔ ((givesLoad ≡ givesLoad) × (t ≡ false))
-  load-shown true = (λ e. absurd (let z = bit-is h 4 0 (omega arith) (omega arith) in omega arith), λ e. let f = e .1 in impossible cc)
-  load-shown false = (λ e. (refl, refl), λ e. bit-is h 4 1 (omega arith) (omega arith))
+  load-shown : (t : Bool) → (bit 2 (replyHeader h 4 (cond t Good Bad)) ≡ 1) ↔ ((givesLoad ≡ givesLoad) × (t ≡ false))
+  load-shown true = (λ e. absurd (let z = bit-is h 4 Good (omega arith) in omega arith), λ e. let f = e .1 in impossible cc)
+  load-shown false = (λ e. (refl, refl), λ e. bit-is h 4 Bad (omega arith))
 
   by-request : (r : Request) → Shows r (performed r s room ram uds)
   unfolding putIn nameReply udiReply loadAnswer loadReply blockReply digestReply finishedWith actedBlock

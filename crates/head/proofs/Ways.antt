@@ -1,6 +1,6 @@
 -- The ways that a call can go, as one law for each call: what holds of each way holds of the call. A way of begin and of acting is a function of
 -- the words lent as UDS.
-use Prim.Native.Nat.{ℕ, _+_, _-_, _/_, _<_, _≤_}
+use Prim.Native.Nat.{ℕ, _+_, _/_, _<_, _≤_}
 use mathlib.Core.Bool.{Bool, true, false, not, cond, _&&_, or-true}
 use mathlib.Core.Logic.{_⊎_, inl, inr}
 use mathlib.Core.Path.{_≡_, refl}
@@ -17,8 +17,7 @@ use Rattle.record.specs.Record.{recordAt}
 use Rattle.record.specs.Types.{Source, slot0, slot1, client, unknown, sourceOf}
 use Rattle.protocol.specs.Commands.{lengthOk, placeOf, countIn, isLast}
 use Rattle.protocol.specs.Replies.{sent, nameReply, udiReply, blockReply, digestReply, putIn}
-use Rattle.protocol.specs.Theorems.{IsReply}
-use Rattle.protocol.specs.Theorems as theorems
+use Rattle.protocol.specs.Theorems.{IsReply, isName, isUdi, isLoad, isBlock}
 use Rattle.protocol.proofs.Proved.{protocol}
 use Rattle.protocol.specs.declared.Reply.{Reply}
 use Rattle.head.specs.State.{isWhole, incomingOk, loadingOk, progressIn, progressOk, live, idle, ofSize, ended}
@@ -252,20 +251,20 @@ module _ (s : State) (room ram : List ℕ) (n : ℕ) (P : (List ℕ → Outcome)
     block-ways z next =
         by-either P (isLast (s .progress .size) (s .progress .block)) _ _
         (λ l. finish-ways _ _ z)
-        (λ l. w .progress (blockReply h) (theorems.block h) (nextBlock (s .progress)) _ (next l) (λ v. v) z)
+        (λ l. w .progress (blockReply h) (isBlock h) (nextBlock (s .progress)) _ (next l) (λ v. v) z)
 
     load-ways : P (performed givesLoad s room ram)
     unfolding afterLoad loadAnswer
     load-ways =
-        let f = theorems.load h (takes s) in
+        let f = isLoad h (takes s) in
         by-test (λ (p : Progress). P (replying (loadAnswer s) (between s p) room ram)) (takes s) _ _
         (λ g. w .progress (loadAnswer s) f (loaded (loadOf s)) ram (loaded-ok s g) (λ v. refl) (λ e. (refl, refl, refl)))
         (λ g. w .reply (loadAnswer s) f)
 
     module _ (fits : length ram ≡ s .config .«ram_len») (ok : progressOk (s .progress) (s .config .«ram_len») ≡ true) where
       request-ways : (c l : ℕ) (r : Request) → requestIn (s .progress .phase) c l ≡ r → P (performed r s room ram)
-      request-ways c l asksName e = w .reply (nameReply h) (theorems.name h)
-      request-ways c l asksUdi e = w .reply (udiReply h (s .config .udi)) (theorems.udi h (s .config .udi))
+      request-ways c l asksName e = w .reply (nameReply h) (isName h)
+      request-ways c l asksUdi e = w .reply (udiReply h (s .config .udi)) (isUdi h (s .config .udi))
       request-ways c l givesLoad e = load-ways
       request-ways c l givesBlock e =
           let m = s .config .«ram_len» in

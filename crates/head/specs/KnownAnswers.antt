@@ -115,8 +115,8 @@ abbrev pub having : List ℕ → State
 having bs = gatheredOn bs (record { report = continues; state = beginning (padded 256 (4 ∷ [])) (zeros 8) (flashed 0 0 []) (0 ∷ []) (zeros 8) .state }) .state
 
 -- its reply to a whole load of size 0 with this header
-abbrev pub replyToNone : ℕ → List ℕ
-replyToNone h =
+abbrev pub replyToSize0 : ℕ → List ℕ
+replyToSize0 h =
     let o = acted (withIncoming (having []) (record { header = h; got = 129; body = padded 128 (0x03 ∷ []) })) (zeros 129) (0 ∷ []) (zeros 8) in
     take (o .reply) (o .room)
 
@@ -131,13 +131,12 @@ pub record KnownAnswers : Type 0 where
   -- masks 1, 0xFFFFFFFE and 0x00000100: bit 0 is RESET_SEED, and the other 31 are ignored
   pub masks : (recordAt (masked 1 0 0 0) .resetSeed ≡ true) × (recordAt (masked 254 255 255 255) .resetSeed ≡ false)
       × (recordAt (masked 0 1 0 0) .resetSeed ≡ false)
-  -- each reply as bytes: the command's frame ID, endpoint 2, and bit 2 as the status byte has it
+  -- each reply as bytes: the command's frame ID, endpoint 2, and bit 2 set only where the status is 1
   pub name : sent (nameReply 0x10)
       ≡ 0x12 ∷ 0x02 ∷ 0x74 ∷ 0x6b ∷ 0x31 ∷ 0x20 ∷ 0x6d ∷ 0x6b ∷ 0x64 ∷ 0x66 ∷ 0x01 ∷ 0 ∷ 0 ∷ 0 ∷ 0 ∷ 0 ∷ 0
       ∷ 0 ∷ 0 ∷ 0 ∷ 0 ∷ 0 ∷ 0 ∷ 0 ∷ 0 ∷ 0 ∷ 0 ∷ 0 ∷ 0 ∷ 0 ∷ 0 ∷ 0 ∷ 0 ∷ []
   pub udi : (u : List ℕ) → length u ≡ 8 → sent (udiReply 0x30 u) ≡ 0x32 ∷ 0x09 ∷ 0 ∷ u ++ zeros 22
   pub taken : sent (loadReply 0x53 true) ≡ 0x51 ∷ 0x04 ∷ 0 ∷ 0 ∷ 0 ∷ []
-  pub not-taken : sent (loadReply 0x53 false) ≡ 0x55 ∷ 0x04 ∷ 1 ∷ 0 ∷ 0 ∷ []
   pub block : sent (blockReply 0x73) ≡ 0x71 ∷ 0x06 ∷ 0 ∷ 0 ∷ 0 ∷ []
   pub digest : (d : List ℕ) → length d ≡ 32 → sent (digestReply 0x73 d) ≡ 0x73 ∷ 0x07 ∷ 0 ∷ d ++ zeros 94
   -- the string of the CDI as bytes, direct and chained, without and with a user secret
@@ -153,8 +152,8 @@ pub record KnownAnswers : Type 0 where
       × (acted (having (0x10 ∷ 0x01 ∷ [])) (zeros 129) (0 ∷ []) (zeros 8) .report ≡ continues)
       × (acted (having (0x10 ∷ 0x01 ∷ [])) (zeros 129) (0 ∷ []) (zeros 8) .state ≡ having [])
   -- a load that is not taken, with each frame ID
-  pub none-loaded : (replyToNone 0x13 ≡ 0x15 ∷ 0x04 ∷ 1 ∷ 0 ∷ 0 ∷ []) × (replyToNone 0x33 ≡ 0x35 ∷ 0x04 ∷ 1 ∷ 0 ∷ 0 ∷ [])
-      × (replyToNone 0x53 ≡ 0x55 ∷ 0x04 ∷ 1 ∷ 0 ∷ 0 ∷ []) × (replyToNone 0x73 ≡ 0x75 ∷ 0x04 ∷ 1 ∷ 0 ∷ 0 ∷ [])
+  pub not-taken : (replyToSize0 0x13 ≡ 0x15 ∷ 0x04 ∷ 1 ∷ 0 ∷ 0 ∷ []) × (replyToSize0 0x33 ≡ 0x35 ∷ 0x04 ∷ 1 ∷ 0 ∷ 0 ∷ [])
+      × (replyToSize0 0x53 ≡ 0x55 ∷ 0x04 ∷ 1 ∷ 0 ∷ 0 ∷ []) × (replyToSize0 0x73 ≡ 0x75 ∷ 0x04 ∷ 1 ∷ 0 ∷ 0 ∷ [])
   -- a frame for endpoint 3 leaves nothing, and there is nothing to act on
   pub foreign : (gathered (having (0x18 ∷ [])) 0x01 ≡ record { report = continues; state = having [] })
       × (acted (having (0x18 ∷ 0x01 ∷ [])) [] [] [] .report ≡ refused 47)

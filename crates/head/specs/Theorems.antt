@@ -5,12 +5,13 @@ use mathlib.Core.Logic.{_↔_, _⊎_}
 use mathlib.Core.Bool.{true, false, cond}
 use mathlib.Core.List.{List, [], _∷_}
 use lib.Dec.{eqb}
-use lib.ListN.{length, getD, take, drop}
+use lib.ListN.{length, take, drop}
 use lib.Seq.{paste}
 use Rattle.framing.specs.Header.{good, headerAt}
 use Rattle.framing.specs.Theorems.{bit}
 use Rattle.rfc7693.specs.Rfc7693.{blake2s}
 use Rattle.protocol.specs.Commands.{placeOf, countIn}
+use Rattle.protocol.specs.Replies.{headerIn}
 use Rattle.protocol.specs.Theorems.{StatusTold}
 use Rattle.endian.specs.Lists.{zeros}
 use Rattle.head.specs.State.{isWhole, inRange, live, idle, ended}
@@ -123,8 +124,8 @@ module _ (s : State) (room ram uds : List ℕ) where
     pub beyond : drop (afterAct .reply) (afterAct .room) ≡ drop (afterAct .reply) room
     -- bit 2 of its header is set exactly when it has a status and that is 1 (change request 5)
     pub told : 1 ≤ afterAct .reply → StatusTold (take (afterAct .reply) (afterAct .room))
-    -- and that is so exactly where the frame is a load that is not taken: who sees only headers sees it
-    pub shows : 1 ≤ afterAct .reply → (bit 2 (getD (afterAct .room) 0 0) ≡ 1) ↔ ((requestOf s ≡ givesLoad) × (takes s ≡ false))
+    -- and that is so exactly where the frame is a load that is not taken
+    pub shows : 1 ≤ afterAct .reply → (bit 2 (headerIn (afterAct .room)) ≡ 1) ↔ ((requestOf s ≡ givesLoad) × (takes s ≡ false))
     -- only the block's bytes of RAM are written, and those only by a call that replies; that the gathered body has 128 bytes is its type in
     -- the code
     pub beyond-block : length (s .incoming .body) ≡ 128 → SameButBlock s (afterAct .ram) ram

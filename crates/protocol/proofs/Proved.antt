@@ -4,7 +4,7 @@ use native.Mathlib.Numerals.{add-one}
 use Prim.Native.Nat.{ℕ, zero, suc, _+_, _/_, _%_, _≤_, _<_}
 use mathlib.Core.Path.{_≡_, refl, sym, ap, _∙_}
 use mathlib.Core.Logic.{_⊎_, inl, inr}
-use mathlib.Core.Bool.{Bool, true, false, _&&_, and-eq-true-iff}
+use mathlib.Core.Bool.{true, false, cond, _&&_, and-eq-true-iff}
 use mathlib.Core.List.{List, [], _∷_, _++_}
 use native.Mathlib.Omega.{arith}
 use lib.Dec.{leb}
@@ -12,14 +12,17 @@ use lib.ListN.{length, take, length-take, length-append, length-replicate}
 use lib.Seq.{take-at}
 use borrow.Author.Tests.{eq-eqb, eqb-true, eqb-false, le-leb, leb-true}
 use Rattle.framing.specs.Header.{fields, fieldsAt, headerByte, codeOf, frameId, inField}
+use Rattle.framing.specs.Answers.{statusNumber}
 use Rattle.framing.specs.Theorems.{bit}
+use Rattle.framing.specs.declared.Status.{Status}
+use Rattle.framing.specs.declared.Status.the-variants.{Good, Bad}
 use Rattle.framing.proofs.Headers.{headers}
 use Rattle.framing.proofs.Headers as framing
 use Rattle.endian.specs.Endian.{word}
 use Rattle.protocol.specs.Commands.{firmware, loadIn, goodLoad, blocksFor, placeOf, countIn, isLast}
 use Rattle.protocol.specs.Replies.{written, replyHeader, replyWith, sent, nameReply, udiReply, loadReply, blockReply, digestReply}
 use Rattle.endian.specs.Lists.{padded}
-use Rattle.protocol.specs.Theorems.{Protocol, IsGood, Framed, StatusTold, IsReply, name, udi, load, block, digest, loadWith}
+use Rattle.protocol.specs.Theorems.{Protocol, IsGood, Framed, StatusTold, IsReply, isName, isUdi, isLoad, isBlock, isDigest, loadWith}
 use Rattle.protocol.specs.declared.Load.{Load}
 use Rattle.protocol.specs.declared.Reply.{Reply}
 
@@ -66,50 +69,50 @@ last-block n k h e =
     omega arith
 
 -- a header for the firmware reads as it was written
-pub header-of : (id n s : ℕ) → id ≤ 3 → codeOf n < 4 → s ≤ 1 → fieldsAt (written (headerByte id firmware n s)) ≡ fields id firmware n s
-header-of id n s h c t =
-    let w = framing.written id 2 n s (omega arith) (omega arith) c (omega arith) in
-    rw w (headers .exact _ id 2 n s .1 w .1)
+pub header-of : (id n : ℕ) (s : Status) → id ≤ 3 → codeOf n < 4
+    → fieldsAt (written (headerByte id firmware n (statusNumber s))) ≡ fields id firmware n (statusNumber s)
+header-of id n s h c =
+    let w = framing.written id 2 n (statusNumber s) (omega arith) (omega arith) c (framing.status-small s) in
+    rw w (headers .exact _ id 2 n (statusNumber s) .1 w .1)
 
-reply-header : (h n s : ℕ) → codeOf n < 4 → s ≤ 1 → fieldsAt (replyHeader h n s) ≡ fields (inField frameId h) 2 n s
+reply-header : (h n : ℕ) (s : Status) → codeOf n < 4 → fieldsAt (replyHeader h n s) ≡ fields (inField frameId h) 2 n (statusNumber s)
 unfolding replyHeader
-reply-header h n s c t = header-of (h / 32 % 4) n s (omega arith) c t
+reply-header h n s c = header-of (h / 32 % 4) n s (omega arith) c
 
-of-length : (h n s : ℕ) → (n ≡ 4) ⊎ ((n ≡ 32) ⊎ (n ≡ 128)) → s ≤ 1 → fieldsAt (replyHeader h n s) ≡ fields (inField frameId h) 2 n s
+of-length : (h n : ℕ) (s : Status) → (n ≡ 4) ⊎ ((n ≡ 32) ⊎ (n ≡ 128)) → fieldsAt (replyHeader h n s) ≡ fields (inField frameId h) 2 n (statusNumber s)
 of-length h n s (inl e) = reply-header h n s (rw e (omega arith))
 of-length h n s (inr (inl e)) = reply-header h n s (rw e (omega arith))
 of-length h n s (inr (inr e)) = reply-header h n s (rw e (omega arith))
 
-framed : (h n code s : ℕ) (given : List ℕ) → n ≤ 128 → Framed (replyWith h n code s (padded 126 given))
+framed : (h n code : ℕ) (s : Status) (given : List ℕ) → n ≤ 128 → Framed (replyWith h n code s (padded 126 given))
 framed h n code s given l =
-    let e : length (take n (code ∷ s ∷ padded 126 given)) ≡ n = rw (length-take, length-append, length-replicate) (omega arith) in
+    let e : length (take n (code ∷ statusNumber s ∷ padded 126 given)) ≡ n = rw (length-take, length-append, length-replicate) (omega arith) in
     (l, ap suc e ∙ sym (add-one n))
 
 reply-lengths : (r : Reply) → IsReply r → Framed r
 unfolding nameReply udiReply loadReply blockReply digestReply
-reply-lengths _ (name h) = (omega arith, refl)
-reply-lengths _ (udi h u) = framed h 32 0x09 0 u (omega arith)
-reply-lengths _ (load h g) = (omega arith, refl)
-reply-lengths _ (block h) = (omega arith, refl)
-reply-lengths _ (digest h d) = framed h 128 0x07 0 d (omega arith)
+reply-lengths _ (isName h) = (omega arith, refl)
+reply-lengths _ (isUdi h u) = framed h 32 0x09 Good u (omega arith)
+reply-lengths _ (isLoad h g) = (omega arith, refl)
+reply-lengths _ (isBlock h) = (omega arith, refl)
+reply-lengths _ (isDigest h d) = framed h 128 0x07 Good d (omega arith)
 
 -- bit 2 of the header that is written for a status
-pub bit-is : (h n s : ℕ) → codeOf n < 4 → s ≤ 1 → bit 2 (replyHeader h n s) ≡ s
-bit-is h n s c t = sym (headers .status _ _ _ _ _ (reply-header h n s c t))
+pub bit-is : (h n : ℕ) (s : Status) → codeOf n < 4 → bit 2 (replyHeader h n s) ≡ statusNumber s
+bit-is h n s c = sym (headers .status _ _ _ _ _ (reply-header h n s c))
 
 -- a reply with a status tells it
-module _ (h n code s : ℕ) (others : List ℕ) (c : codeOf n < 4) (t : s ≤ 1) (d : code ≡ 2 → ⊥) where
-  with-status : StatusTold (replyHeader h n s ∷ code ∷ s ∷ others)
-  with-status = let e = bit-is h n s c t in (λ b. (d, sym e ∙ b), λ b. e ∙ b .1)
+module _ (h n code : ℕ) (s : Status) (others : List ℕ) (c : codeOf n < 4) (d : code ≡ 2 → ⊥) where
+  with-status : StatusTold (replyHeader h n s ∷ code ∷ statusNumber s ∷ others)
+  with-status = let e = bit-is h n s c in (λ b. (d, sym e ∙ b), λ b. e ∙ b .1)
 
 reply-told : (r : Reply) → IsReply r → StatusTold (sent r)
 unfolding nameReply udiReply loadReply blockReply digestReply
-reply-told _ (name h) = (λ e. absurd (let z = bit-is h 32 0 (omega arith) (omega arith) in omega arith), λ e. absurd (e .0 refl))
-reply-told _ (udi h u) = with-status h 32 0x09 0 (take 30 (padded 126 u)) (omega arith) (omega arith) (λ e. omega arith)
-reply-told _ (load h true) = with-status h 4 0x04 0 (0 ∷ 0 ∷ []) (omega arith) (omega arith) (λ e. omega arith)
-reply-told _ (load h false) = with-status h 4 0x04 1 (0 ∷ 0 ∷ []) (omega arith) (omega arith) (λ e. omega arith)
-reply-told _ (block h) = with-status h 4 0x06 0 (0 ∷ 0 ∷ []) (omega arith) (omega arith) (λ e. omega arith)
-reply-told _ (digest h d) = with-status h 128 0x07 0 (take 126 (padded 126 d)) (omega arith) (omega arith) (λ e. omega arith)
+reply-told _ (isName h) = (λ e. absurd (let z = bit-is h 32 Good (omega arith) in omega arith), λ e. absurd (e .0 refl))
+reply-told _ (isUdi h u) = with-status h 32 0x09 Good (take 30 (padded 126 u)) (omega arith) (λ e. omega arith)
+reply-told _ (isLoad h g) = with-status h 4 0x04 (cond g Good Bad) (0 ∷ 0 ∷ []) (omega arith) (λ e. omega arith)
+reply-told _ (isBlock h) = with-status h 4 0x06 Good (0 ∷ 0 ∷ []) (omega arith) (λ e. omega arith)
+reply-told _ (isDigest h d) = with-status h 128 0x07 Good (take 126 (padded 126 d)) (omega arith) (λ e. omega arith)
 
 pub protocol : Protocol
 protocol = record {

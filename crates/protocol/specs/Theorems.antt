@@ -5,12 +5,14 @@ use mathlib.Core.Path.{_≡_}
 use mathlib.Core.Logic.{_↔_, _⊎_}
 use mathlib.Core.Bool.{Bool, true, false}
 use mathlib.Core.List.{List, _∷_, _++_}
-use lib.ListN.{length, getD}
+use lib.ListN.{length}
 use Rattle.framing.specs.Header.{fields, fieldsAt, inField, frameId}
+use Rattle.framing.specs.Answers.{statusNumber}
 use Rattle.framing.specs.Theorems.{bit}
+use Rattle.framing.specs.declared.Status.{Status}
 use Rattle.endian.specs.Endian.{word}
 use Rattle.protocol.specs.Commands.{loadIn, goodLoad, usesUss, blocksFor, placeOf, countIn, isLast}
-use Rattle.protocol.specs.Replies.{replyHeader, sent, codeIn, statusIn, nameCode, nameReply, udiReply, loadReply, blockReply, digestReply}
+use Rattle.protocol.specs.Replies.{replyHeader, sent, headerIn, codeIn, statusIn, nameCode, nameReply, udiReply, loadReply, blockReply, digestReply}
 use Rattle.protocol.specs.declared.Load.{Load}
 use Rattle.protocol.specs.declared.Reply.{Reply}
 
@@ -30,15 +32,15 @@ Framed r = (r .len ≤ 128) × (length (sent r) ≡ r .len + 1)
 
 -- bytes of a reply in which bit 2 of the header is set exactly when there is a status and it is 1 (change request 5)
 abbrev pub StatusTold : List ℕ → Type 0
-StatusTold r = (bit 2 (getD r 0 0) ≡ 1) ↔ ((codeIn r ≡ nameCode → ⊥) × (statusIn r ≡ 1))
+StatusTold r = (bit 2 (headerIn r) ≡ 1) ↔ ((codeIn r ≡ nameCode → ⊥) × (statusIn r ≡ 1))
 
 -- one of the replies, whatever is in it
 pub data IsReply : Reply → Type 0 where
-  name : (h : ℕ) → IsReply (nameReply h)
-  udi : (h : ℕ) (udi : List ℕ) → IsReply (udiReply h udi)
-  load : (h : ℕ) (good : Bool) → IsReply (loadReply h good)
-  block : (h : ℕ) → IsReply (blockReply h)
-  digest : (h : ℕ) (digest : List ℕ) → IsReply (digestReply h digest)
+  isName : (h : ℕ) → IsReply (nameReply h)
+  isUdi : (h : ℕ) (udi : List ℕ) → IsReply (udiReply h udi)
+  isLoad : (h : ℕ) (good : Bool) → IsReply (loadReply h good)
+  isBlock : (h : ℕ) → IsReply (blockReply h)
+  isDigest : (h : ℕ) (digest : List ℕ) → IsReply (digestReply h digest)
 
 pub record Protocol : Type 0 where
   -- the fields of a load one after the other: header, command, size (4), flag (1), USS (32), and what is ignored
@@ -51,8 +53,9 @@ pub record Protocol : Type 0 where
   -- the blocks of a program are full but for the last, and with the last it is whole
   pub full : (n k : ℕ) → k < blocksFor n → isLast n k ≡ false → countIn n k ≡ 127
   pub last : (n k : ℕ) → 1 ≤ n → isLast n k ≡ true → placeOf k + countIn n k ≡ n
-  -- a reply has the command's frame ID, endpoint 2, bit 7 zero, the length of its body, and its status, 0 or 1, as bit 2
-  pub header : (h n s : ℕ) → (n ≡ 4) ⊎ ((n ≡ 32) ⊎ (n ≡ 128)) → s ≤ 1 → fieldsAt (replyHeader h n s) ≡ fields (inField frameId h) 2 n s
+  -- a reply has the command's frame ID, endpoint 2, bit 7 zero, the length of its body, and its status as bit 2
+  pub header : (h n : ℕ) (s : Status) → (n ≡ 4) ⊎ ((n ≡ 32) ⊎ (n ≡ 128))
+      → fieldsAt (replyHeader h n s) ≡ fields (inField frameId h) 2 n (statusNumber s)
   -- every reply has the length that it says
   pub lengths : (r : Reply) → IsReply r → Framed r
   -- and tells its status in its header

@@ -1,9 +1,8 @@
 // The firmware protocol: what a load and a block say, and each reply as a value.
-// Document 01, "Commands and replies", in the terms of specs/Commands.antt and specs/Replies.antt.
+// Document 01, "Commands and replies", and change request 5 in the terms of specs/Commands.antt and specs/Replies.antt.
 ghost use mathlib.Core.Path.{_≡_};
 ghost use lib.ListN.{take, drop};
 ghost use Rattle.protocol.specs.Commands.{lengthOk, bytesOf, loadIn, goodLoad, usesUss, blocksFor, placeOf, countIn, isLast};
-ghost use Rattle.framing.specs.Answers.{statusNumber};
 ghost use Rattle.protocol.specs.Replies.{replyHeader, replyWith, nameReply, udiReply, loadReply, blockReply, digestReply};
 use framing::Status;
 
@@ -126,7 +125,7 @@ pub fn is_last(size: u32, block: u32) -> bool
 
 // The header of the reply to a command with this header.
 fn reply_header(header: u8, len: usize, status: Status) -> u8
-    ensures { λ r. ⌜ r ≡ replyHeader header len (statusNumber status) ⌝ }
+    ensures { λ r. ⌜ r ≡ replyHeader header len status ⌝ }
 {
     match framing::write_header(framing::frame_id(header), 2, len, status) {
         framing::Written::Byte(b) => b,
@@ -134,17 +133,16 @@ fn reply_header(header: u8, len: usize, status: Status) -> u8
     }
 }
 
-// A reply with a status, which stands in its header and after its code: all of its body but these two bytes is given.
-fn with_status(header: u8, len: usize, code: u8, status: Status, body: [u8; 128]) -> Reply
-    ensures { λ r. ⌜ r ≡ replyWith header len code (statusNumber status) (drop 2 body) ⌝ }
+// A reply with a status, which stands in its header and after its code. Code and status are written over the first two bytes of the body.
+fn with_status(header: u8, len: usize, code: u8, status: Status, mut body: [u8; 128]) -> Reply
+    ensures { λ r. ⌜ r ≡ replyWith header len code status (drop 2 body) ⌝ }
 {
-    let mut filled = body;
-    filled[0] = code;
-    filled[1] = framing::status_number(status);
+    body[0] = code;
+    body[1] = framing::status_number(status);
     Reply {
         header: reply_header(header, len, status),
         len,
-        body: filled,
+        body,
     }
 }
 

@@ -14,8 +14,7 @@ use Rattle.endian.specs.Endian.{bytes}
 use Rattle.cdi.specs.Cdi.{cdiString}
 use Rattle.protocol.specs.Commands.{commandIn, loadIn, usesUss, goodLoad, blocksFor}
 use Rattle.protocol.specs.Replies.{sent, putIn, digestReply}
-use Rattle.protocol.specs.Theorems.{Framed, loadWith}
-use Rattle.protocol.specs.Theorems as theorems
+use Rattle.protocol.specs.Theorems.{Framed, loadWith, isLoad, isBlock, isDigest}
 use Rattle.protocol.proofs.Proved.{protocol}
 use Rattle.protocol.specs.declared.Load.{Load}
 use Rattle.protocol.specs.declared.Reply.{Reply}
@@ -99,7 +98,7 @@ module _ (prog : List ℕ) (id : ℕ) (secret : Secret) (makes : Made prog id se
         let b : a ≡ commandHeader id = ea ∙ ap (λ (x : List ℕ). getD x 0 0) e in
         let m = length (R .ram) in
         let t : g ≡ true = eg ∙ ap (λ (x : List ℕ). goodLoad m (loadIn x)) e ∙ made.load-good prog id secret makes m fits .1 in
-        rw (b, t) (protocol .lengths _ (theorems.load (commandHeader id) true), client .to-load n id true (makes .accepted))
+        rw (b, t) (protocol .lengths _ (isLoad (commandHeader id) true), client .to-load n id true (makes .accepted))
     reply-taken (suc k) h f e r (to-load l a ea g eg) =
         absurd (let c : commandIn f ≡ 5 = ap commandIn e ∙ command-of k in let d : commandIn f ≡ 3 = l .1 in omega arith)
     reply-taken zero h f e r (to-block b a ea) =
@@ -108,7 +107,7 @@ module _ (prog : List ℕ) (id : ℕ) (secret : Secret) (makes : Made prog id se
         let q : a ≡ commandHeader id = ea ∙ ap (λ (x : List ℕ). getD x 0 0) e in
         let s : suc k - 1 + 1 ≡ suc k = omega arith in
         rw q (
-          protocol .lengths _ (theorems.block (commandHeader id)),
+          protocol .lengths _ (isBlock (commandHeader id)),
           client .to-block n id (suc k) (not-refused (suc k) (omega arith)) (omega arith) (ne-eqb (blocksFor n) (suc k - 1 + 1) (λ z. omega arith)),
         )
 
@@ -133,7 +132,7 @@ module _ (prog : List ℕ) (id : ℕ) (secret : Secret) (makes : Made prog id se
       record {
         frame-whole = w;
         taken =
-            ap (taking n id k) (front room (digestReply h d) o (protocol .lengths _ (theorems.digest h d)) er eq)
+            ap (taking n id k) (front room (digestReply h d) o (protocol .lengths _ (isDigest h d)) er eq)
             ∙ ap (λ (x : ℕ). taking n id k (sent (digestReply x d))) eh
             ∙ client .to-last n id k d (not-refused k (omega arith)) b (eq-eqb (blocksFor n) (k - 1 + 1) z) s
             ∙ ap (takingAs 0 0) (ed ∙ sym (digest-last prog id secret k ek));

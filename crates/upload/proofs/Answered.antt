@@ -8,7 +8,7 @@ use lib.Dec.{ltb}
 use lib.ListN.{length, getD, length-append}
 use borrow.Author.Tests.{lt-ltb, le-ltb, lt-leb}
 use Rattle.endian.proofs.Same.{same-refl}
-use Rattle.framing.specs.Header.{fieldsAt, replyLen}
+use Rattle.framing.specs.Header.{fieldsAt, replyBodyLen}
 use Rattle.framing.proofs.Headers.{reply-small}
 use Rattle.protocol.specs.Commands.{placeOf}
 use Rattle.client.specs.Replies.{Taking, takingAs, taking}
@@ -109,7 +109,7 @@ replied-next : (job : Job) (k : ℕ) (r : List ℕ) (t : ℕ)
 unfolding replied
 replied-next job k r t = rw (came r) (onward-next job (held k r t) (afterReply job k (taking (job .len) (job .id) k r)))
 
-pub reads : (job : Job) (k : ℕ) (r : List ℕ) → length r ≡ 1 + replyLen (fieldsAt (getD r 0 0))
+pub reads : (job : Job) (k : ℕ) (r : List ℕ) → length r ≡ 1 + replyBodyLen (fieldsAt (getD r 0 0))
     → runs job (turnOf (sentFrame job k) Send) (bytesOf r) .next ≡ afterReply job k (taking (job .len) (job .id) k r)
 reads job k r w =
     rw (← (append-nil (bytesOf r)), hears job k (all-bytes r) [] [] (job .wait) Send refl (omega arith) w (omega arith))

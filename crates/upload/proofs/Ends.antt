@@ -8,7 +8,7 @@ use mathlib.Core.List.{List, [], _∷_}
 use lib.ListN.{length, getD, set}
 use borrow.Author.Tests.{ltb-false}
 use Rattle.endian.proofs.Cases.{impossible}
-use Rattle.framing.specs.Header.{fieldsAt, replyLen}
+use Rattle.framing.specs.Header.{fieldsAt, replyBodyLen}
 use Rattle.framing.proofs.Headers.{reply-small}
 use Rattle.protocol.specs.Commands.{blocksFor}
 use Rattle.upload.specs.Upload.{isOver, opening, turned, runs, mostEvents}
@@ -48,7 +48,7 @@ within job x e g =
     (λ why p. impossible cc)
     (λ b h w p.
     let l = reply-small (getD (set (x .reply) (x .got) b) 0 0) in
-    let m = ltb-false (replyLen (fieldsAt (getD (set (x .reply) (x .got) b) 0 0))) (x .got + 1) w in
+    let m = ltb-false (replyBodyLen (fieldsAt (getD (set (x .reply) (x .got) b) 0 0))) (x .got + 1) w in
     omega arith)
     (λ b h w. by-reply job _ (λ (t : Turn). isOver (t .next) ≡ false → t .exchange .got ≤ 128)
     (λ why p. impossible cc)

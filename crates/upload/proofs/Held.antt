@@ -9,7 +9,7 @@ use lib.Seq.{take-append-seam, set-append-seam}
 use lib.Dec.{ltb}
 use borrow.Author.Tests.{ltb-true, ltb-false}
 use Rattle.endian.specs.Lists.{padded}
-use Rattle.framing.specs.Header.{fieldsAt, replyLen}
+use Rattle.framing.specs.Header.{fieldsAt, replyBodyLen}
 use Rattle.framing.proofs.Headers.{reply-small}
 use Rattle.protocol.specs.Commands.{placeOf}
 use Rattle.client.specs.Replies.{takingAs, taking}
@@ -28,7 +28,7 @@ abbrev pub held : ℕ → List ℕ → ℕ → Exchange
 held k r t = record { k = k; got = length r; reply = padded 129 r; ticks = t }
 
 abbrev pub bodyOf : List ℕ → ℕ
-bodyOf r = replyLen (fieldsAt (getD r 0 0))
+bodyOf r = replyBodyLen (fieldsAt (getD r 0 0))
 
 -- a reply that is not whole has room for another byte
 pub room : (r : List ℕ) → length r ≤ bodyOf r → length r < 129
@@ -53,7 +53,7 @@ first-byte [] = refl
 first-byte (b ∷ r) = refl
 
 pub whole-is : (k : ℕ) (r : List ℕ) (t : ℕ) → isWhole (held k r t) ≡ ltb (bodyOf r) (length r)
-whole-is k r t = ap (λ (b : ℕ). ltb (replyLen (fieldsAt b)) (length r)) (first-byte r)
+whole-is k r t = ap (λ (b : ℕ). ltb (replyBodyLen (fieldsAt b)) (length r)) (first-byte r)
 
 -- a byte behind a reply that is not whole makes it at most whole
 at-most : (r : List ℕ) (b : ℕ) → length r ≤ bodyOf r → length (r ++ b ∷ []) ≤ 1 + bodyOf (r ++ b ∷ [])

@@ -124,7 +124,7 @@ fn receive(job: Job, x: Exchange, b: u8) -> Turn
         reply: bytes,
         ticks: x.ticks,
     };
-    if at < framing::reply_len(bytes[0]) as usize {
+    if at < framing::reply_body_len(bytes[0]) as usize {
         return Turn {
             exchange: y,
             next: Next::Wait,

@@ -23,7 +23,7 @@ returns-2 c =
       c .before .before .before .frame-id .ensures,
       c .before .before .endpoint .ensures,
       c .before .body-length .ensures,
-      c .status-in .ensures,
+      c .header-status .ensures,
       low,
     )
 

@@ -1,8 +1,6 @@
--- Each return rewrites the definition with the tests that led to it: a number fits its field when it is at most 3.
+-- A number fits its field when it is at most 3, and every status does.
 use Prim.Native.Nat.{_<_, _≤_}
-use mathlib.Core.Path.{_≡_}
 use native.Mathlib.Omega.{arith}
-use native.Mathlib.Nat.{mul-one}
 use borrow.Author.Tests.{lt-ltb, le-ltb}
 use borrow.Author.Needs.{needs}
 use Rattle.framing.specs.Header.{headerByte, codeOf}

@@ -15,7 +15,7 @@ first-two (x ∷ y ∷ body) a b l = refl
 
 returns : tie.Need-returns
 returns c =
-    let body = c .before .before .args .body in
+    let body = c .before .before .args .t5 in
     let l : length body ≡ 128 = search needs in
     rw (c .reply-header .ensures, c .before .status-number .ensures, first-two body _ _ l)
 

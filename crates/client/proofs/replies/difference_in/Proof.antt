@@ -44,7 +44,7 @@ returns-5 c =
       h .if2 .left,
       eq-eqb _ _ (l .if3 .left),
       eq-eqb _ _ (k .if4 .left),
-      ← (c .before .status-agrees .ensures),
+      ← (c .before .status-is .ensures),
       c .if5 .taken,
     )
 
@@ -78,7 +78,7 @@ module _ (z : tie.After-all-zero) where
         header-left .if2 .left,
         eq-eqb _ _ (length-left .if3 .left),
         eq-eqb _ _ (code-left .if4 .left),
-        ← (status-left .before .status-agrees .ensures),
+        ← (status-left .before .status-is .ensures),
         status-left .if5 .left,
         filler,
       )

@@ -14,7 +14,7 @@ returns c = rw (c .failed .ensures, lt-ltb _ _ (c .before .if1 .taken))
 returns-2 : tie.Need-returns-2
 unfolding received
 returns-2 c =
-    let l = c .before .reply-len in
+    let l = c .before .reply-body-len in
     let e = c .before .before .before in
     let n = e .before .args .x .got in
     let h : n + 1 ≤ l .result = omega (arith, c .if2 .taken) in
@@ -23,7 +23,7 @@ returns-2 c =
 returns-3 : tie.Need-returns-3
 unfolding received
 returns-3 c =
-    let l = c .before .before .reply-len in
+    let l = c .before .before .reply-body-len in
     let e = c .before .before .before .before in
     let n = e .before .args .x .got in
     let h : l .result < n + 1 = omega (arith, c .before .if2 .left) in

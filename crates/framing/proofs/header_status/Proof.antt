@@ -2,8 +2,8 @@
 use Prim.Native.Nat.{_/_, _%_}
 use mathlib.Core.Path.{_≡_}
 use native.Mathlib.Omega.{arith}
-use Rattle.framing.proofs.status_in.Statement.{statement}
-use Rattle.framing.proofs.status_in.Tie as tie
+use Rattle.framing.proofs.header_status.Statement.{statement}
+use Rattle.framing.proofs.header_status.Tie as tie
 
 returns : tie.Need-returns
 returns c =
@@ -14,5 +14,5 @@ returns c =
 returns-2 : tie.Need-returns-2
 returns-2 c = rw (c .if1 .left)
 
-pub status-in-spec : {M : Type 1} → statement M
-status-in-spec = tie.close (tie.spec returns returns-2)
+pub header-status-spec : {M : Type 1} → statement M
+header-status-spec = tie.close (tie.spec returns returns-2)
