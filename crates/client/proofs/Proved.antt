@@ -103,7 +103,8 @@ example = (refl, refl, refl)
 
 -- ---- a reply that is expected
 
-record Told (s : ℕ) : Type 0 where
+-- the status of this number
+record StatusOf (s : ℕ) : Type 0 where
   status : Status
   number : s ≡ statusNumber status
 
@@ -127,8 +128,7 @@ byte-is b id n s l e t = ap written (sym (headers .exact b id firmware n s .0 (l
 status-is : (b s : ℕ) → statusIs (fieldsAt b) s ≡ true → s ≡ bit 2 b
 status-is b s = by-bit b (λ (x : Fields). statusIs x s ≡ true → s ≡ bit 2 b) (λ p e. eqb-true s (bit 2 b) e) (λ h e. impossible cc)
 
--- the status that a bit stands for
-status-of : (s : ℕ) → s < 2 → Told s
+status-of : (s : ℕ) → s < 2 → StatusOf s
 status-of zero h = record { status = Good; number = refl }
 status-of (suc zero) h = record { status = Bad; number = refl }
 status-of (suc (suc s)) h = absurd (omega arith)

@@ -1,7 +1,9 @@
 // The firmware protocol: what a load and a block say, and each reply as a value.
 // Document 01, "Commands and replies", and change request 5 in the terms of specs/Commands.antt and specs/Replies.antt.
 ghost use mathlib.Core.Path.{_≡_};
+ghost use mathlib.Core.Bool.{cond};
 ghost use lib.ListN.{take, drop};
+ghost use Rattle.framing.specs.declared.Status.the-variants.{Good, Bad};
 ghost use Rattle.protocol.specs.Commands.{lengthOk, bytesOf, loadIn, goodLoad, usesUss, blocksFor, placeOf, countIn, isLast};
 ghost use Rattle.protocol.specs.Replies.{replyHeader, replyWith, nameReply, udiReply, loadReply, blockReply, digestReply};
 use framing::Status;
@@ -146,6 +148,13 @@ fn with_status(header: u8, len: usize, code: u8, status: Status, mut body: [u8; 
     }
 }
 
+// The status of what was done, or not.
+fn status_if(good: bool) -> Status
+    ensures { λ r. ⌜ r ≡ cond good Good Bad ⌝ }
+{
+    if good { Status::Good } else { Status::Bad }
+}
+
 // "tk1 ", "mkdf", version 1. It has no status.
 pub fn name_reply(header: u8) -> Reply
     ensures { λ r. ⌜ r ≡ nameReply header ⌝ }
@@ -187,10 +196,7 @@ pub fn udi_reply(header: u8, udi: [u8; 8]) -> Reply
 pub fn load_reply(header: u8, good: bool) -> Reply
     ensures { λ r. ⌜ r ≡ loadReply header good ⌝ }
 {
-    if good {
-        return with_status(header, 4, 0x04, Status::Good, [0; 128]);
-    }
-    with_status(header, 4, 0x04, Status::Bad, [0; 128])
+    with_status(header, 4, 0x04, status_if(good), [0; 128])
 }
 
 // A block that is not the last was stored.

@@ -6,11 +6,7 @@ use Rattle.protocol.proofs.load_reply.Tie as tie
 
 returns : tie.Need-returns
 unfolding loadReply
-returns c = rw (c .before .if1 .taken) (c .with-status .ensures)
-
-returns-2 : tie.Need-returns-2
-unfolding loadReply
-returns-2 c = rw (c .before .if1 .left) (c .with-status2 .ensures)
+returns c = rw (← (c .before .status-if .ensures)) (c .with-status .ensures)
 
 pub load-reply-spec : {M : Type 1} → statement M
-load-reply-spec = tie.close (tie.spec (λ c κs. search needs) returns (λ c κs. search needs) returns-2)
+load-reply-spec = tie.close (tie.spec (λ c κs. search needs) (λ c κs. search needs) returns)
