@@ -311,7 +311,7 @@ def full_before(folder):
 def stale(folder):
     """What came before the load is no reply."""
     terminal = Terminal()
-    terminal.line.write(b"\x11\x04\x01\0\0")
+    terminal.line.write(b"\x15\x04\x01\0\0")
     process = running(terminal.name, written(folder, "stale", b"x"))
     for k in range(2):
         expect(f"frame {k}", terminal.line.read(129), server.frame(b"x", 0, None, k))

@@ -3,7 +3,7 @@
 each call; hashes in one call are in c_blake2s.py.
 
     vectors.py              makes all calls
-    vectors.py --store      writes the stored input and output of `test_calls`: one call of each kind
+    vectors.py --store      writes the stored input and output of `test_calls`: a call of each kind, or two
     vectors.py --check      exits non-zero unless these are so stored
 """
 import hashlib

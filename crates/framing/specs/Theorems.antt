@@ -13,8 +13,8 @@ abbrev pub bit : ℕ → ℕ → ℕ
 bit k b = b / 2 ^ k % 2
 
 pub record Headers : Type 0 where
-  -- a byte reads as an ID, an endpoint, a length and a status exactly when the writer gives that byte for them; a command reads as the first
-  -- three exactly when its status is 0
+  -- a byte reads as an ID, an endpoint, a length and a status exactly when the writer gives that byte for them; it reads as a command's ID,
+  -- endpoint and length exactly when it reads as these and status 0
   pub exact : (b id ep n s : ℕ) → ((b < 2 ^ 8) × (fieldsAt b ≡ fields id ep n s)) ↔ (headerByte id ep n s ≡ byte b)
   pub command : (b id ep n : ℕ) → (headerAt b ≡ good id ep n) ↔ (fieldsAt b ≡ fields id ep n 0)
   -- the status is bit 2

@@ -131,7 +131,7 @@ pub record KnownAnswers : Type 0 where
   -- masks 1, 0xFFFFFFFE and 0x00000100: bit 0 is RESET_SEED, and the other 31 are ignored
   pub masks : (recordAt (masked 1 0 0 0) .resetSeed ≡ true) × (recordAt (masked 254 255 255 255) .resetSeed ≡ false)
       × (recordAt (masked 0 1 0 0) .resetSeed ≡ false)
-  -- each reply as bytes: the command's frame ID, endpoint 2, and bit 2 set only where the status is 1
+  -- each reply as bytes: the command's frame ID, endpoint 2, bit 2 zero; the one with status 1 is `not-taken`, below
   pub name : sent (nameReply 0x10)
       ≡ 0x12 ∷ 0x02 ∷ 0x74 ∷ 0x6b ∷ 0x31 ∷ 0x20 ∷ 0x6d ∷ 0x6b ∷ 0x64 ∷ 0x66 ∷ 0x01 ∷ 0 ∷ 0 ∷ 0 ∷ 0 ∷ 0 ∷ 0
       ∷ 0 ∷ 0 ∷ 0 ∷ 0 ∷ 0 ∷ 0 ∷ 0 ∷ 0 ∷ 0 ∷ 0 ∷ 0 ∷ 0 ∷ 0 ∷ 0 ∷ 0 ∷ 0 ∷ []

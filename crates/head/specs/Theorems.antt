@@ -124,7 +124,7 @@ module _ (s : State) (room ram uds : List ℕ) where
     pub beyond : drop (afterAct .reply) (afterAct .room) ≡ drop (afterAct .reply) room
     -- bit 2 of its header is set exactly when it has a status and that is 1 (change request 5)
     pub told : 1 ≤ afterAct .reply → StatusTold (take (afterAct .reply) (afterAct .room))
-    -- and that is so exactly where the frame is a load that is not taken
+    -- and it is set exactly where the frame is a load that is not taken
     pub shows : 1 ≤ afterAct .reply → (bit 2 (headerIn (afterAct .room)) ≡ 1) ↔ ((requestOf s ≡ givesLoad) × (takes s ≡ false))
     -- only the block's bytes of RAM are written, and those only by a call that replies; that the gathered body has 128 bytes is its type in
     -- the code

@@ -148,7 +148,7 @@ fn with_status(header: u8, len: usize, code: u8, status: Status, mut body: [u8; 
     }
 }
 
-// The status of what was done, or not.
+// Good for what was done, Bad for what was not.
 fn status_if(good: bool) -> Status
     ensures { λ r. ⌜ r ≡ cond good Good Bad ⌝ }
 {

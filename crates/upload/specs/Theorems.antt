@@ -4,11 +4,12 @@ use mathlib.Core.Path.{_≡_}
 use mathlib.Core.Logic.{_↔_}
 use mathlib.Core.Bool.{true}
 use mathlib.Core.List.{List, [], _∷_, _++_}
-use lib.ListN.{length, getD, replicate}
+use lib.ListN.{length, replicate}
 use Rattle.rfc7693.specs.Rfc7693.{blake2s}
 use Rattle.endian.specs.Lists.{zeros}
 use Rattle.framing.specs.Header.{fieldsAt, replyBodyLen}
 use Rattle.protocol.specs.Commands.{placeOf}
+use Rattle.protocol.specs.Replies.{headerIn}
 use Rattle.client.specs.Frames.{refusal}
 use Rattle.client.specs.Replies.{takingAs, taking}
 use Rattle.upload.specs.Upload.{jobOf, isOver, turnOf, sentFrame, opening, afterReply, turned, bytesOf, runs, mostEvents}
@@ -30,7 +31,7 @@ pub record Answer (job : Job) (k : ℕ) (digest : List ℕ) (es : List Event) : 
   pub reply : List ℕ
   pub silences : ℕ
   pub heard : Heard reply silences es
-  pub whole : length reply ≡ 1 + replyBodyLen (fieldsAt (getD reply 0 0))
+  pub whole : length reply ≡ 1 + replyBodyLen (fieldsAt (headerIn reply))
   pub in-time : silences < max 1 (job .wait)
   pub taken : taking (job .len) (job .id) k reply ≡ takingAs 0 0 digest
 
@@ -64,7 +65,7 @@ pub record Uploads : Type 0 where
   pub sends : (job : Job) (x : Exchange) (e : Event) → turned job x e .next ≡ Send
       → (turned job x e .exchange ≡ sentFrame job (x .k + 1)) × (refusal (job .len) (job .id) (x .k + 1) ≡ 0)
   -- a whole reply is read to its end
-  pub reads : (job : Job) (k : ℕ) (r : List ℕ) → length r ≡ 1 + replyBodyLen (fieldsAt (getD r 0 0))
+  pub reads : (job : Job) (k : ℕ) (r : List ℕ) → length r ≡ 1 + replyBodyLen (fieldsAt (headerIn r))
       → runs job (turnOf (sentFrame job k) Send) (bytesOf r) .next ≡ afterReply job k (taking (job .len) (job .id) k r)
   -- literal events: a load with a silence in it, and what makes each failure
   pub example : (runs small (opening small) (Silence ∷ bytesOf firstReply ++ bytesOf lastReply) .next ≡ Loaded)

@@ -4,11 +4,12 @@ use Prim.Native.Nat.{ℕ, _+_, _-_, _*_}
 use mathlib.Core.Bool.{Bool, true, false, not, cond}
 use mathlib.Core.List.{List, [], _∷_}
 use lib.Dec.{eqb, leb, ltb}
-use lib.ListN.{length, getD, set, take}
+use lib.ListN.{length, set, take}
 use Rattle.endian.specs.Lists.{zeros, same}
 use Rattle.blake2s.specs.Hash.{hashOutput}
 use Rattle.framing.specs.Header.{fieldsAt, replyBodyLen}
 use Rattle.protocol.specs.Commands.{lengthOk, blocksFor, placeOf}
+use Rattle.protocol.specs.Replies.{headerIn}
 use Rattle.client.specs.Replies.{Taking, taking}
 use Rattle.upload.specs.declared.Job.{Job}
 use Rattle.upload.specs.declared.Exchange.{Exchange}
@@ -94,7 +95,7 @@ withByte x b = record { k = x .k; got = x .got + 1; reply = set (x .reply) (x .g
 
 -- a reply is as long as its header says; a bad header is all there is of one
 abbrev pub isWhole : Exchange → Bool
-isWhole x = ltb (replyBodyLen (fieldsAt (getD (x .reply) 0 0))) (x .got)
+isWhole x = ltb (replyBodyLen (fieldsAt (headerIn (x .reply)))) (x .got)
 
 -- no reply is longer than 129 bytes
 unfoldable pub received : Job → Exchange → ℕ → Turn
