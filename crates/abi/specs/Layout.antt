@@ -30,11 +30,11 @@ abbrev pub phaseOf : ℕ → Phase
 phaseOf k = cond (eqb k 0) Waiting (cond (eqb k 1) Loading (cond (eqb k 2) Started Stopped))
 
 -- the flags as one number: 1 verify, 2 chained, 4 uss_used
-abbrev pub bit : Bool → ℕ
-bit t = cond t 1 0
+abbrev pub asBit : Bool → ℕ
+asBit t = cond t 1 0
 
 abbrev pub flagsOf : Bool → Bool → Bool → ℕ
-flagsOf verify chained used = bit verify + 2 * bit chained + 4 * bit used
+flagsOf verify chained used = asBit verify + 2 * asBit chained + 4 * asBit used
 
 -- and back: the flag of weight w; a number over 7 is no flags
 abbrev pub flagIn : ℕ → ℕ → Bool

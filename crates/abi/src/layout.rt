@@ -3,7 +3,7 @@ ghost use mathlib.Core.Path.{_≡_};
 ghost use Prim.Native.Nat.{_+_, _≤_, _<_, _^_};
 ghost use lib.ListN.{length, take, drop};
 ghost use lib.Seq.{paste};
-ghost use Rattle.abi.specs.Layout.{lent, holds, stateIn, memoryOf, smallOf, phaseOf, phaseNumber, bit, flagsOf};
+ghost use Rattle.abi.specs.Layout.{lent, holds, stateIn, memoryOf, smallOf, phaseOf, phaseNumber, asBit, flagsOf};
 use loader::Config;
 use loader::Incoming;
 use loader::Phase;
@@ -140,8 +140,8 @@ fn phase_number(p: Phase) -> u8
     }
 }
 
-fn bit(b: bool) -> u8
-    ensures { λ r. ⌜ (r ≡ bit b) × (r ≤ 1) ⌝ }
+fn as_bit(b: bool) -> u8
+    ensures { λ r. ⌜ (r ≡ asBit b) × (r ≤ 1) ⌝ }
 {
     if b { 1 } else { 0 }
 }
@@ -149,7 +149,7 @@ fn bit(b: bool) -> u8
 fn flags_of(verify: bool, chained: bool, uss_used: bool) -> u8
     ensures { λ r. ⌜ r ≡ flagsOf verify chained «uss_used» ⌝ }
 {
-    bit(verify) + 2 * bit(chained) + 4 * bit(uss_used)
+    as_bit(verify) + 2 * as_bit(chained) + 4 * as_bit(uss_used)
 }
 
 // The four bytes after the body.

@@ -6,15 +6,15 @@ use Rattle.messages.proofs.loaded.Tie as tie
 
 returns : tie.Need-returns
 returns c =
-    from-empty _ _ _ (c .before .before .before .before .before .before .before .before .before .before .empty .ensures)
+    let digest = c .before .before in
+    let words = digest .before .before .before in
+    let number = words .before .before in
+    let first = number .before in
+    from-empty _ _ _ (first .before .before .empty .ensures)
     (then _ _ _ _ _
     (then _ _ _ _ _
-    (then _ _ _ _ _
-    (then _ _ _ _ _
-    (c .before .before .before .before .before .before .before .before .put-all .ensures)
-    (c .before .before .before .before .before .before .before .put-decimal .ensures))
-    (c .before .before .before .before .before .put-all2 .ensures))
-    (c .before .before .put-hex .ensures))
+    (then _ _ _ _ _ (then _ _ _ _ _ (first .put-all .ensures) (number .put-decimal .ensures)) (words .put-all2 .ensures))
+    (digest .put-hex .ensures))
     (c .put-all3 .ensures))
 
 pub loaded-spec : {M : Type 1} → statement M

@@ -9,24 +9,23 @@ use Rattle.messages.proofs.put_frame.Tie as tie
 returns : tie.Need-returns
 unfolding frameName
 returns c =
-    rw (eq-eqb _ _ (c .before .before .if1 .taken)) (then _ _ _ _ _
-    (then _ _ _ _ _
-    (c .before .before .before .before .put-all .ensures)
-    (c .before .before .before .put-decimal .ensures))
+    let load = c .before .before in
+    let number = load .before in
+    rw (eq-eqb _ _ (load .if1 .taken)) (then _ _ _ _ _
+    (then _ _ _ _ _ (number .before .put-all .ensures) (number .put-decimal .ensures))
     (c .put-all2 .ensures))
 
 returns-2 : tie.Need-returns-2
 unfolding frameName
 returns-2 c =
-    rw (ne-eqb _ _ (c .before .before .before .before .before .before .if1 .left), ← (c .before .before .before .blocks2 .ensures)) (then _ _ _ _ _
-    (then _ _ _ _ _
-    (c .before .before .before .before .before .before .before .before .put-all .ensures)
-    (c .before .before .before .before .before .before .before .put-decimal .ensures))
-    (then _ _ _ _ _
-    (then _ _ _ _ _
-    (c .before .before .before .before .put-all3 .ensures)
-    (c .before .before .put-block .ensures))
-    (c .put-all4 .ensures)))
+    let block = c .before .before in
+    let count = block .before in
+    let bracket = count .before in
+    let other = bracket .before .before in
+    let number = other .before in
+    rw (ne-eqb _ _ (other .if1 .left), ← (count .blocks2 .ensures)) (then _ _ _ _ _
+    (then _ _ _ _ _ (number .before .put-all .ensures) (number .put-decimal .ensures))
+    (then _ _ _ _ _ (then _ _ _ _ _ (bracket .put-all3 .ensures) (block .put-block .ensures)) (c .put-all4 .ensures)))
 
 pub put-frame-spec : {M : Type 1} → statement M
 put-frame-spec =

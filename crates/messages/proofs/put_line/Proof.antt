@@ -6,17 +6,19 @@ use Rattle.messages.proofs.put_line.Tie as tie
 
 returns : tie.Need-returns
 returns c =
-    let z = c .before .before .before .before .before .before .before .before .before .before .before in
-    rw (← (z .pre .0), ← (c .before .before .before .before .place-of .ensures), ← (c .before .before .before .least .ensures)) (then _ _ _ _ _
+    let rate = c .before .before in
+    let bytes = rate .before in
+    let place = bytes .before in
+    let count = place .before in
+    let bracket = count .before in
+    let bar = bracket .before .before in
+    let first = bar .before in
+    rw (← (first .before .before .pre .0), ← (place .place-of .ensures), ← (bytes .least .ensures)) (then _ _ _ _ _
     (then _ _ _ _ _
     (then _ _ _ _ _
-    (then _ _ _ _ _
-    (then _ _ _ _ _
-    (c .before .before .before .before .before .before .before .before .before .put-all .ensures)
-    (c .before .before .before .before .before .before .before .before .put-bar .ensures))
-    (c .before .before .before .before .before .before .put-all2 .ensures))
-    (c .before .before .before .before .before .put-count .ensures))
-    (c .before .before .put-rate .ensures))
+    (then _ _ _ _ _ (then _ _ _ _ _ (first .put-all .ensures) (bar .put-bar .ensures)) (bracket .put-all2 .ensures))
+    (count .put-count .ensures))
+    (rate .put-rate .ensures))
     (c .put-all3 .ensures))
 
 pub put-line-spec : {M : Type 1} → statement M

@@ -6,18 +6,22 @@ use Rattle.messages.proofs.unexpected_reply.Tie as tie
 
 returns : tie.Need-returns
 returns c =
-    rw (← (c .before .before .before .before .before .before .difference .ensures)) (then _ _ _ _ _
+    let reply = c .before .before in
+    let colon = reply .before in
+    let words = colon .before .before in
+    let asked = words .before in
+    let expected = asked .before in
+    let frame = expected .before .before in
+    rw (← (asked .difference .ensures)) (then _ _ _ _ _
     (then _ _ _ _ _
     (then _ _ _ _ _
     (then _ _ _ _ _
     (then _ _ _ _ _
-    (then _ _ _ _ _
-    (c .before .before .before .before .before .before .before .before .before .before .put-all .ensures)
-    (c .before .before .before .before .before .before .before .before .before .put-frame .ensures))
-    (c .before .before .before .before .before .before .before .put-all2 .ensures))
-    (c .before .before .before .before .before .put-difference .ensures))
-    (c .before .before .before .put-all3 .ensures))
-    (c .before .before .put-reply .ensures))
+    (then _ _ _ _ _ (frame .before .put-all .ensures) (frame .put-frame .ensures))
+    (expected .put-all2 .ensures))
+    (words .put-difference .ensures))
+    (colon .put-all3 .ensures))
+    (reply .put-reply .ensures))
     (c .put-all4 .ensures))
 
 pub unexpected-reply-spec : {M : Type 1} → statement M
