@@ -14,11 +14,11 @@ void reference_blake2s(const uint8_t *msg, size_t n, uint8_t out[32]);
 #define ADDRESS 0x40000000
 
 enum { WAITING, LOADING, STARTED, STOPPED };
-enum { VERIFY = 1, CHAINED = 2, USS_USED = 4 };
+enum { VERIFY = 1, CHAINED = 2, USS_USED = 4, HAS_SECOND = 8 };
 
 /* The lent bytes and numbers. */
 struct frame {
-    uint8_t body[128], header, got, phase, flags, required[32], measured_id[32], udi[8], uss[32];
+    uint8_t body[128], header, got, phase, flags, first[32], measured_id[32], udi[8], uss[32], second[32];
 };
 
 struct numbers {
@@ -70,7 +70,7 @@ static int has_block(uint32_t size, uint32_t block)
 
 static int in_range(const struct numbers *n, const struct frame *f)
 {
-    if (n->ram_len == 0 || n->ram_len > RAM_MOST || f->phase > STOPPED || f->flags > 7)
+    if (n->ram_len == 0 || n->ram_len > RAM_MOST || f->phase > STOPPED || f->flags > 15)
         return 0;
     if (f->got == 0 ? f->header != 0 : bad(f->header) || (f->got > length(f->header) && !whole(f)))
         return 0;
@@ -121,9 +121,14 @@ static uint32_t start(struct head *h, const uint8_t digest[32])
     return MASTFRAP_STARTED;
 }
 
+static int allowed(const struct frame *f, const uint8_t digest[32])
+{
+    return memcmp(f->first, digest, 32) == 0 || (f->flags & HAS_SECOND && memcmp(f->second, digest, 32) == 0);
+}
+
 static uint32_t start_or_stop(struct head *h, const uint8_t digest[32])
 {
-    if (h->f->flags & VERIFY && memcmp(h->f->required, digest, 32) != 0)
+    if (h->f->flags & VERIFY && !allowed(h->f, digest))
         return stop(h->n, h->f, 25);
     return start(h, digest);
 }
@@ -155,12 +160,16 @@ static void read_record(struct frame *f, const uint8_t *record, const uint8_t ud
 
     memset(f, 0, sizeof *f);
     f->flags = (type != 1 && type != 4 ? VERIFY : 0) | (record[4] & 1 ? CHAINED : 0);
-    memcpy(f->required, type == 0 ? built_in : record + 8, 32);
+    memcpy(f->first, type == 0 ? built_in : record + 8, 32);
+    if (type != 0 && record[4] & 2) {
+        f->flags |= HAS_SECOND;
+        memcpy(f->second, record + 72, 32);
+    }
     memcpy(f->measured_id, record + 40, 32);
     memcpy(f->udi, udi, 8);
 }
 
-uint32_t mastfrap_begin(uint32_t numbers[3], uint8_t bytes[236], const uint8_t *record, mastfrap_size record_len,
+uint32_t mastfrap_begin(uint32_t numbers[3], uint8_t bytes[268], const uint8_t *record, mastfrap_size record_len,
                         const uint8_t udi[8], const uint8_t *slot0, mastfrap_size slot0_len, mastfrap_size size0,
                         const uint8_t *slot1, mastfrap_size slot1_len, mastfrap_size size1, const uint8_t built_in[32],
                         uint8_t *ram, mastfrap_size ram_len, uint32_t *uds, mastfrap_size uds_len, uint32_t start[2],
@@ -194,7 +203,7 @@ static void clear_frame(struct frame *f)
     f->got = 0;
 }
 
-uint32_t mastfrap_gather(uint32_t numbers[3], uint8_t bytes[236], uint8_t byte)
+uint32_t mastfrap_gather(uint32_t numbers[3], uint8_t bytes[268], uint8_t byte)
 {
     struct numbers *n = (struct numbers *)numbers;
     struct frame *f = (struct frame *)bytes;
@@ -287,7 +296,7 @@ static uint32_t perform(struct head *h)
     }
 }
 
-uint32_t mastfrap_act(uint32_t numbers[3], uint8_t bytes[236], uint8_t *room, mastfrap_size room_len, uint8_t *ram,
+uint32_t mastfrap_act(uint32_t numbers[3], uint8_t bytes[268], uint8_t *room, mastfrap_size room_len, uint8_t *ram,
                       mastfrap_size ram_len, uint32_t *uds, mastfrap_size uds_len, uint32_t *reply_len, uint32_t start[2],
                       uint8_t cdi[32], uint8_t digest[32])
 {

@@ -143,7 +143,7 @@ enum {
     MASTFRAP_STOPPED_HEADER = 22,       /* bit 7 or bit 2 of a header is set (gather) */
     MASTFRAP_STOPPED_COMMAND = 23,      /* the command is not allowed now, or unknown (act) */
     MASTFRAP_STOPPED_BODY_LENGTH = 24,  /* the command has another body length (act) */
-    MASTFRAP_STOPPED_DIGEST = 25,       /* the program has not the required digest (begin, act) */
+    MASTFRAP_STOPPED_DIGEST = 25,       /* the program's digest is not allowed (begin, act) */
     MASTFRAP_STOPPED_PROGRAM_SIZE = 26, /* the program in flash has size 0, over the slot or over RAM (begin) */
 
     MASTFRAP_WHOLE = 64,  /* the byte is taken, and with it a frame is whole: act on it (gather) */
@@ -161,19 +161,21 @@ enum {
  *               128           its header
  *               129           how many of its bytes have come, the header among them
  *               130           0 waiting, 1 loading, 2 started, 3 stopped
- *               131           the sum of 1, a digest is required; 2, the measurement is measured_id
- *                             (RESET_SEED); 4, the user secret is used
- *               132 to 163    the required digest
+ *               131           the sum of 1, the program must have an allowed digest; 2, the measurement is
+ *                             measured_id (RESET_SEED); 4, the user secret is used; 8, there is a second
+ *                             allowed digest
+ *               132 to 163    the first allowed digest
  *               164 to 195    measured_id
  *               196 to 203    the UDI
  *               204 to 235    the user secret (USS)
+ *               236 to 267    the second allowed digest
  *
  * Memory with another number in byte 130 or 131 holds no state. docs/STATES.md has the ranges. Memory that
  * a begin has written, which was not refused, and that gather and act alone have changed since, is never
  * refused with 1.
  */
 #define MASTFRAP_STATE_NUMBERS 3
-#define MASTFRAP_STATE_BYTES 236
+#define MASTFRAP_STATE_BYTES 268
 
 #define MASTFRAP_RECORD_BYTES 256
 #define MASTFRAP_UDI_BYTES 8
@@ -185,8 +187,9 @@ enum {
  * at 64 act on the frame and send the reply. 65 is a start, and every other answer a stop, with the lamp.
  * firmware/head.c does so.
  *
- * The reset record has 256 bytes: 0 to 3 the type, 4 to 7 the mask, of which bit 0 is RESET_SEED, both
- * lowest byte first; 8 to 39 the required digest, 40 to 71 measured_id; the rest is not read.
+ * The reset record has 256 bytes: 0 to 3 the type, 4 to 7 the mask, both lowest byte first; 8 to 39 the
+ * first allowed digest, 40 to 71 measured_id, and, if mask bit 1 is set, 72 to 103 the second allowed
+ * digest; the rest is not read. Mask bit 0 is RESET_SEED, and bits 2 to 31 are ignored.
  *
  * The device secret (UDS) is eight words, each four of its bytes, lowest first: where its first byte is
  * 0x11, the lowest byte of uds[0] is. It is read only at a start, and each word is 0 after it. What a call

@@ -196,21 +196,23 @@ def frames(seen, program, id, secret, uss):
     return calls.run()[1:]
 
 
-def load(rng, seen, headlog, size, type, secret, right=True):
-    """Plays a program to a head, of which type 5 requires the right digest or another: what went wrong, or nothing."""
+def load(rng, seen, headlog, size, type, secret, allowed="first"):
+    """Plays a program to a head, of which type 5 allows its digest as the first, as the second or not: what went wrong, or nothing."""
     program, id, uds, udi = rng.randbytes(size), rng.randrange(4), rng.randbytes(32), rng.randbytes(8)
     digest = blake2s(program)
-    mask, required, measured_id = rng.randbytes(4), digest if type == TYPE_CLIENT_VER and right else rng.randbytes(32), rng.randbytes(32)
-    record = type.to_bytes(4, "little") + mask + required + measured_id + rng.randbytes(184)
+    mask = rng.getrandbits(32) | 2 * (allowed == "second")
+    first, second = (digest if type == TYPE_CLIENT_VER and allowed == which else rng.randbytes(32) for which in ("first", "second"))
+    measured_id = rng.randbytes(32)
+    record = struct.pack("<II32s32s32s", type, mask, first, measured_id, second) + rng.randbytes(152)
     sent = frames(seen, program, id, secret, rng.randbytes(32) if secret is None else secret)
     if size > PRINTER_RAM:
         sent = sent[:1]
     done, _ = play([headlog], record + uds + udi + b"".join(sent))
     *replies, end = done.stdout.decode().splitlines() or [""]
-    chained = mask[0] & 1
+    chained = mask & 1
     hashed = uds + bytes([(secret is not None) + 2 * chained]) + (measured_id if chained else digest) + (b"" if secret is None else secret)
     wanted = f"S {size} {blake2s(hashed).hex()}" if size <= PRINTER_RAM else f"W {len(sent[0])}"
-    wanted = wanted if right else "F 25"
+    wanted = wanted if allowed else "F 25"
     if end != wanted or len(replies) != len(sent) or done.returncode != 0 or done.stderr:
         return f"{len(replies)} replies to {len(sent)} frames, then {end!r}, expected {wanted!r}"
     seen["headlog", {"S": "started", "W": "had no RAM for it", "F": "stopped with 25"}[end[0]]] += 1
@@ -242,9 +244,10 @@ def main(headlog):
                 print(f"c_client: program of {size} bytes, type {type}, secret {secret and secret.hex()}: {what}")
                 return 1
     for size in SIZES:
-        if what := load(rng, seen, headlog, size, TYPE_CLIENT_VER, rng.randbytes(32), right=False):
-            print(f"c_client: program of {size} bytes, another digest required: {what}")
-            return 1
+        for allowed in ("second", None):
+            if what := load(rng, seen, headlog, size, TYPE_CLIENT_VER, rng.randbytes(32), allowed):
+                print(f"c_client: program of {size} bytes, allowed: {allowed}: {what}")
+                return 1
     print("c_client:", "; ".join(f"{part}: " + ", ".join(f"{seen[part, k]} {k}" for k in kinds) for part, kinds in KINDS.items()))
     return 0 if all(seen[part, k] for part, kinds in KINDS.items() for k in kinds) else 1
 

@@ -28,7 +28,7 @@ RAM = 300
 ALL_RAM = RAM + 1  # what there is to lend from
 UDS = [int.from_bytes(bytes(range(16 + 4 * i, 20 + 4 * i)), "little") for i in range(8)]
 UDI = bytes(range(0xD0, 0xD8))
-REQUIRED = b"\xc3" * 32
+FIRST, SECOND = b"\xc3" * 32, b"\xd4" * 32
 MEASURED_ID = b"\x3c" * 32
 PROGRAM = bytes((7 * i + 3) % 256 for i in range(3 * 127))
 COUNTING = bytes(range(0xA0, 0xC0))
@@ -56,7 +56,7 @@ def some(calls, things):
 
 def waiting(**changes):
     """A head that waits, but for the changes. What it does not use is not zero, to show that it is not used."""
-    return Head(**(dict(ram=RAM, udi=UDI, required=REQUIRED, measured_id=MEASURED_ID) | changes))
+    return Head(**(dict(ram=RAM, udi=UDI, first=FIRST, second=SECOND, measured_id=MEASURED_ID) | changes))
 
 
 # ---- what the server sends
@@ -126,7 +126,7 @@ def session(calls, what, data, **head):
     Session(what, calls, waiting(**head)).send(data)
 
 
-# ---- sessions without a required digest
+# ---- sessions without allowed digests
 
 
 def client_session(calls):
@@ -155,7 +155,7 @@ def late_secret(calls):
 
 
 def longest(calls):
-    """A program of 131,072 bytes, which is required, in as much RAM."""
+    """A program of 131,072 bytes, which must have its digest, in as much RAM."""
     program = random.Random(3).randbytes(RAM_MOST)
     s = begun(calls, "longest", record_of(5, 0, blake2s(program)), ram=RAM_MOST)
     s.send(frame(0x13, load(RAM_MOST, 1, COUNTING)), ram=RAM_MOST)
@@ -178,7 +178,7 @@ def loads(calls):
             session(calls, f"{name}, flag {flag}", frame(0x33, load(130, flag, uss)) + blocks())
 
 
-# ---- sessions with a required digest, and chained ones
+# ---- sessions with allowed digests, and chained ones
 
 
 def wrong_bits(right):
@@ -189,19 +189,29 @@ def wrong_bits(right):
 def digests(calls):
     right = blake2s(PROGRAM[:200])
     last_bit, first_bit = wrong_bits(right)
-    for what, flag, required, chained in [
-        ("required, right", 0, right, False),
-        ("required, right, secret", 1, right, False),
-        ("required, last bit wrong", 0, last_bit, False),
-        ("required, first bit wrong", 1, first_bit, False),
-        ("chained", 0, None, True),
-        ("chained, secret", 1, None, True),
-        ("chained, required, right", 1, right, True),
-        ("chained, required, wrong", 1, last_bit, True),
-        ("chained, measured_id required", 0, MEASURED_ID, True),
+    for what, flag, digest, chained in [
+        ("right", 0, right, False),
+        ("right, secret", 1, right, False),
+        ("last bit wrong", 0, last_bit, False),
+        ("first bit wrong", 1, first_bit, False),
+        ("chained, any", 0, None, True),
+        ("chained, any, secret", 1, None, True),
+        ("chained, right", 1, right, True),
+        ("chained, wrong", 1, last_bit, True),
+        ("chained, measured_id", 0, MEASURED_ID, True),
     ]:
         data = frame(0x13, load(200, flag, COUNTING)) + blocks()
-        session(calls, what, data, verify=required is not None, required=required or REQUIRED, chained=chained)
+        session(calls, what, data, verify=digest is not None, first=digest or FIRST, chained=chained)
+
+
+def two_digests(calls):
+    """Every pair of digests, with mask bit 1 and without: either is enough, and without the bit only the first."""
+    right = blake2s(PROGRAM[:200])
+    digests = [right, *wrong_bits(right), ZEROS]
+    data = frame(0x13, load(200)) + blocks()
+    for verify, has_second, (j, one), (k, two) in itertools.product([0, 1], [0, 1], enumerate(digests), enumerate(digests)):
+        what = f"digests {j} and {k}, verify {verify}, bit {has_second}"
+        session(calls, what, data, verify=verify == 1, first=one, second=two, has_second=has_second == 1)
 
 
 # ---- stops
@@ -236,7 +246,7 @@ def stops(calls):
 # ---- begin
 
 
-def begun(calls, what, record, udi=UDI, slots=SLOTS, built_in=REQUIRED, ram=RAM, words=8, uds=UDS, **far):
+def begun(calls, what, record, udi=UDI, slots=SLOTS, built_in=FIRST, ram=RAM, words=8, uds=UDS, **far):
     """A session that begin opens, whatever it answers, on memory that holds no state before."""
     return Session(what, calls, words=uds, ram=max(ALL_RAM, ram)).begin(record, udi, slots, built_in, ram, words, **far)
 
@@ -246,8 +256,8 @@ def begin_with(calls, what, *given, **lent):
     return begun(calls, f"begin: {what}", *given, **lent).act().gather(0x10)
 
 
-def record_of(kind, mask=0, required=REQUIRED):
-    return struct.pack("<II32s32s184s", kind, mask, required, MEASURED_ID, PROGRAM)
+def record_of(kind, mask=0, first=FIRST, second=SECOND):
+    return struct.pack("<II32s32s32s152s", kind, mask, first, MEASURED_ID, second, PROGRAM)
 
 
 def digest_of(slots, kind):
@@ -306,22 +316,28 @@ def most_ram(calls):
 
 
 def flash_digests(calls):
-    """Every pair of a built-in and a recorded digest: each type tests one of them, or none."""
+    """Every set of a built-in and two recorded digests: each type tests the first, the others, or none."""
     whole = [blake2s(flash) for flash in FLASH]
     for kind in range(4):
         right = digest_of(SLOTS, kind)
         digests = [right, *wrong_bits(right), digest_of(SLOTS, kind + 1), whole[kind % 2], MEASURED_ID, ZEROS]
-        for mask, (j, built_in), (k, required) in itertools.product([0, 1], enumerate(digests), enumerate(digests)):
-            begin_with(calls, f"type {kind}, mask {mask}, digests {j} and {k}", record_of(kind, mask, required), built_in=built_in)
+        for mask, (j, built_in), (k, one) in itertools.product([0, 1], enumerate(digests), enumerate(digests)):
+            begin_with(calls, f"type {kind}, mask {mask}, digests {j} and {k}", record_of(kind, mask, one), built_in=built_in)
+        few = list(enumerate([right, digests[1], ZEROS]))
+        for mask, (j, built_in), (k, one), (n, two) in itertools.product(range(4), few, few, few):
+            what = f"type {kind}, mask {mask}, digests {j}, {k} and {n}"
+            begin_with(calls, what, record_of(kind, mask, one, two), built_in=built_in)
 
 
 def masks(calls):
-    """Bit 0 counts, for a start and for a client's session, and no other."""
+    """Bits 0 and 1 count, for a start and for a client's session, and no other. The right digest is the first or the second."""
     rng = random.Random(1)
-    for kind, mask in itertools.product(range(6), [0, 1, 2, 3, 0x100, 0x80000000, 0x80000001, 0xFFFFFFFE, 0xFFFFFFFF]):
+    bits = [0, 1, 2, 3, 4, 0x100, 0x200, 0x80000000, 0x80000001, 0xFFFFFFFC, 0xFFFFFFFD, 0xFFFFFFFE, 0xFFFFFFFF]
+    for kind, mask, second in itertools.product(range(6), bits, [False, True]):
         right, uds = digest_of(SLOTS, kind), [rng.getrandbits(32) for _ in range(8)]
-        record = struct.pack("<II32s216s", kind, mask, right, rng.randbytes(216))
-        begin_with(calls, f"type {kind}, mask {mask:x}", record, rng.randbytes(8), built_in=right, uds=uds)
+        digests = (FIRST, right) if second else (right, SECOND)
+        record = record_of(kind, mask, *digests)[:104] + rng.randbytes(152)
+        begin_with(calls, f"type {kind}, mask {mask:x}, second {second}", record, rng.randbytes(8), built_in=right, uds=uds)
 
 
 def begin_loans(calls):
@@ -352,8 +368,9 @@ def random_begins(calls):
         kind, ram = rng.choice([0, 1, 2, 3] * 5 + [4, 5, 6, rng.getrandbits(32)]), rng.choice([RAM, rng.randint(1, RAM)])
         slots = [random_slot(rng, ram) for _ in range(2)]
         digests = [digest_of(slots, kind)] * 4 + [digest_of(slots, kind + 1), rng.randbytes(32)]
-        mask, built_in, required = rng.choice([0, 1, rng.getrandbits(32)]), rng.choice(digests), rng.choice(digests)
-        record = struct.pack("<II32s217s", kind, mask, required, rng.randbytes(217))[: rng.choice([256] * 30 + [255, 257])]
+        mask, built_in, one, two = rng.choice([0, 1, 2, rng.getrandbits(32)]), *rng.choices(digests, k=3)
+        data = struct.pack("<II32s32s32s153s", kind, mask, one, rng.randbytes(32), two, rng.randbytes(153))
+        record = data[: rng.choice([256] * 30 + [255, 257])]
         lent = dict(ram=rng.choice([ram] * 30 + [0]), words=rng.choice([8] * 30 + [7, 9]))
         uds = [rng.getrandbits(32) for _ in range(8)]
         s = begun(calls, f"random begin {k}", record, rng.randbytes(8), slots, built_in, uds=uds, **lent)
@@ -484,7 +501,7 @@ def random_head(rng):
     size = rng.choice([0, 1, 100, 127, 128, 254, 255, 299, 300, 301])
     ram = rng.choice([RAM] * 20 + [0, 1, 299, RAM_MOST, RAM_MOST + 1])
     f = random_frame(rng, size)
-    head = waiting(ram=ram, verify=rng.random() < 0.3, chained=rng.random() < 0.5, frame=f, udi=rng.randbytes(8))
+    head = waiting(ram=ram, verify=rng.random() < 0.3, has_second=rng.random() < 0.5, chained=rng.random() < 0.5, frame=f, udi=rng.randbytes(8))
     head.phase = rng.choice(["waiting"] * 4 + ["loading"] * 6 + ["started", "stopped"])
     if head.phase == "loading" or rng.random() < 0.1:
         head.size, head.block = rng.choice([1, 127, 128, 255, 300, size]), rng.choice([0, 0, 1, 2, 3, 2**32 - 1])
@@ -514,13 +531,14 @@ def random_calls(calls):
         loans = random_loans(rng, head.ram)
         hears = rng.random() < 0.6
         if rng.random() < 0.5:
-            head.required = measured(head, bytes(head.frame.body[:-1]) + bytes([byte]) if hears else head.frame.body)
+            digest = measured(head, bytes(head.frame.body[:-1]) + bytes([byte]) if hears else head.frame.body)
+            head.first, head.second = rng.choice([(digest, head.second), (head.first, digest)])
         s = Session(f"random call {k}", calls, head, [rng.randrange(2**32) for _ in range(8)])
         if hears:
             s.hear(byte, **loans)
         else:
             s.act(**loans)
-        calls.seen["random calls", "verified starts"] += head.verify and s.answer.kind == "S"
+        calls.seen["random calls", f"verified {s.answer.kind}, {head.has_second + 1} digests"] += head.verify
 
 
 # ---- memory of any bytes
@@ -538,7 +556,7 @@ def random_memory(rng, memory):
         memory["numbers"] = struct.pack("<3I", RAM, size, k)
         header, got = rng.choice([*NEAR_FRAMES, *NEAR_FRAMES, (rng.randrange(256), rng.randrange(256))])
         command = rng.choice([b"\x01", b"\x03\x64\0\0\0\1", b"\x05", b"\x05", b"\x08", b""])
-        small = bytes([header, got, rng.choice([0, 1, 1, 2, 3, 4]), rng.randrange(9)])
+        small = bytes([header, got, rng.choice([0, 1, 1, 2, 3, 4]), rng.randrange(17)])
         memory["bytes"] = command + rng.randbytes(128 - len(command)) + small
     if kind == "but one":
         memory.set_head(random_head(rng))
@@ -605,9 +623,9 @@ def in_any_order(rng, s, data):
 def random_lists(calls):
     rng = random.Random(8)
     for k in some(calls, range(RANDOM_LISTS)):
-        size, kind, mask = rng.choice([1, 127, 128, 254, 255, 300]), rng.choice([4, 5]), rng.choice([0, 1])
-        required = rng.choice([blake2s(PROGRAM[:size])] * 3 + [rng.randbytes(32)])
-        record = struct.pack("<II32s216s", kind, mask, required, rng.randbytes(216))
+        size, kind, mask = rng.choice([1, 127, 128, 254, 255, 300]), rng.choice([4, 5]), rng.randrange(4)
+        one, two = rng.choices([blake2s(PROGRAM[:size])] * 2 + [rng.randbytes(32)], k=2)
+        record = record_of(kind, mask, one, two)[:104] + rng.randbytes(152)
         s = begun(calls, f"list {k}", record, rng.randbytes(8), uds=[rng.randrange(2**32) for _ in range(8)])
         if k % 2:
             s.memory["ram"] = rng.randbytes(RAM)
@@ -623,7 +641,7 @@ KINDS = {
     "gather": GATHERS,
     "act": ACTS,
     "random begins": [f"{answer} of type {kind}" for kind in range(4) for answer in "SF"],
-    "random calls": ["verified starts"],
+    "random calls": ["verified S, 1 digests", "verified S, 2 digests"],
     "memory": ["no state", "out of range"],
     "gather on any memory": GATHERS,
     "act on any memory": ACTS,
@@ -631,7 +649,7 @@ KINDS = {
     "gather in lists": GATHERS,
     "act in lists": ACTS,
 }
-PARTS = {begins: "", loads: "", digests: "", stops: "", refusals: "", random_begins: "", random_calls: ""}
+PARTS = {begins: "", loads: "", digests: "", two_digests: "", stops: "", refusals: "", random_begins: "", random_calls: ""}
 PARTS |= {random_memories: "on any memory", random_lists: "in lists"}
 
 

@@ -95,6 +95,7 @@ def told(reason, record, ram):
         lines.append(f"{place} (frames for other endpoints counted, offset 0 is the header)")
     if (reason.kind, reason.number) == ("stopped", 25):
         lines += [f"measured {reason.digest.hex()}", f"allowed  {record[8:40].hex()}"]
+        lines += [f"or       {record[72:104].hex()}"] * (record[4] >> 1 & 1)
     return "".join(line + "\n" for line in lines)
 
 
@@ -235,8 +236,9 @@ def few_bytes(rng):
 
 def types(rng):
     for kind in [*range(10), *STOPPING_TYPES, *(rng.getrandbits(32) for _ in range(10))]:
-        for required in (ZEROS, blake2s(DESIGN)):
-            yield f"type {kind}", record_of(kind, required), RAM_MOST, STARTED
+        for digests in ((ZEROS,), (blake2s(DESIGN),), (ZEROS, blake2s(DESIGN)), (blake2s(DESIGN), ZEROS), (ZEROS, ZEROS)):
+            yield f"type {kind}", record_of(kind, *digests), RAM_MOST, STARTED
+    yield "the second right, the bit clear", record_of(5, ZEROS, blake2s(DESIGN), mask=0xFFFFFFFD), RAM_MOST, STARTED
 
 
 def lengths():

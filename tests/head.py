@@ -69,8 +69,10 @@ class Head:
 
     ram: int
     udi: bytes = bytes(8)
-    verify: bool = False  # the program must have the required digest
-    required: bytes = ZEROS
+    verify: bool = False  # the program must have an allowed digest
+    first: bytes = ZEROS  # the allowed digests
+    second: bytes = ZEROS
+    has_second: bool = False  # the mask has bit 1
     chained: bool = False  # the mask has RESET_SEED
     measured_id: bytes = ZEROS
     phase: str = "waiting"
@@ -218,7 +220,7 @@ class Head:
 
     def finish(self, digest, words, reply=0):
         """It starts, if its digest is allowed."""
-        if self.verify and self.required != digest:
+        if self.verify and digest not in [self.first] + [self.second] * self.has_second:
             return self.stop(25, reply)
         answer = Answer("S", self.size, reply, self.cdi(digest, words), digest)
         words[:] = [0] * 8
@@ -252,8 +254,10 @@ def begin(record, udi, slots, built_in, ram, words):
         return Answer("X", refused), Head(1, phase="stopped")
     kind = number(record[0:4])
     verify = kind not in (TYPE_FLASH1, TYPE_CLIENT)
-    required = built_in if kind == TYPE_FLASH0 else record[8:40]
-    head = Head(len(ram), udi, verify, required, number(record[4:8]) & 1 == 1, record[40:72])
+    mask = number(record[4:8])
+    two = mask & 2 != 0
+    digests = (built_in, ZEROS, False) if kind == TYPE_FLASH0 else (record[8:40], record[72:104] if two else ZEROS, two)
+    head = Head(len(ram), udi, verify, *digests, mask & 1 == 1, record[40:72])
     if kind > TYPE_CLIENT_VER:
         return head.stop(20), head
     if kind in (TYPE_CLIENT, TYPE_CLIENT_VER):

@@ -19,7 +19,7 @@ from typing import NamedTuple
 
 from head import ADDRESS, Answer, Frame, Head, begin
 
-NUMBERS, BYTES = 3, 236
+NUMBERS, BYTES = 3, 268
 ROOM, WORDS = 160, 9  # what there is to lend from
 SPARE = 8  # guard bytes, at least, on either side of a part
 GUARD, STALE = b"\xa5", b"\x99"  # what is in them, and in what a call gives before it
@@ -29,7 +29,7 @@ NAMES = ["begin", "gather", "act"]
 MOST_ARGUMENTS = 19
 ASKED = f"<2I{MOST_ARGUMENTS}Q"  # struct asked of tests/calls_riscv32.c
 SECONDS = 300  # for all calls of a program
-STATE = "128s4B32s32s8s32s"  # body; header, got, phase, flags; required digest, measured_id, UDI, USS
+STATE = "128s4B32s32s8s32s32s"  # body; header, got, phase, flags; first digest, measured_id, UDI, USS, second digest
 
 
 class Difference(Exception):
@@ -42,19 +42,20 @@ class Difference(Exception):
 def state_in(numbers, data):
     """The head that memory holds, or nothing."""
     ram, size, block = struct.unpack("<3I", numbers)
-    body, header, got, phase, flags, required, measured_id, udi, uss = struct.unpack(STATE, data)
-    if phase > 3 or flags > 7:
+    body, header, got, phase, flags, digest, measured_id, udi, uss, second = struct.unpack(STATE, data)
+    if phase > 3 or flags > 15:
         return None
     frame = Frame(header, got, bytearray(body))
-    verify, chained, uss_used = (flags & bit != 0 for bit in (1, 2, 4))
-    return Head(ram, udi, verify, required, chained, measured_id, PHASES[phase], size, block, uss, uss_used, frame)
+    verify, chained, uss_used, has_second = (flags & bit != 0 for bit in (1, 2, 4, 8))
+    config = verify, digest, second, has_second, chained, measured_id
+    return Head(ram, udi, *config, PHASES[phase], size, block, uss, uss_used, frame)
 
 
 def state_parts(head):
     """A head as its memory holds it."""
-    f, flags = head.frame, head.verify + 2 * head.chained + 4 * head.uss_used
+    f, flags = head.frame, head.verify + 2 * head.chained + 4 * head.uss_used + 8 * head.has_second
     small = f.header, f.got, PHASES.index(head.phase), flags
-    data = struct.pack(STATE, bytes(f.body), *small, head.required, head.measured_id, head.udi, head.uss)
+    data = struct.pack(STATE, bytes(f.body), *small, head.first, head.measured_id, head.udi, head.uss, head.second)
     return {"numbers": struct.pack("<3I", head.ram, head.size, head.block), "bytes": data}
 
 

@@ -30,7 +30,7 @@ from simulate import Head, child, ended_by, expect, shown, started, written
 TOP = Path(__file__).resolve().parent.parent
 LOAD = TOP / "load"
 SECONDS = 30
-MEANING = "a head of type 4 has started it; one of type 5 has if its record requires this digest, and shows its lamp (25) otherwise\n"
+MEANING = "a head of type 4 has started it; one of type 5 has if its record allows this digest, and shows its lamp (25) otherwise\n"
 AGAIN = "; reset the head and load again"
 DISAGREES = "status is not bit 2 of its header"
 WAITING = " of silence; is the head waiting for a program? has it stopped?"
@@ -88,6 +88,14 @@ def other_required(folder):
     path = written(folder, "other", b"another")
     expect("./load", run(head.name, path), (0, loaded(b"another"), MEANING))
     head.ends(25, shown(b"another", simulate.STOPS[25]))
+
+
+def second_required(folder):
+    """On changeover day the new program starts as well as the old."""
+    path = written(folder, "new", b"the new program")
+    head = Head("--require", written(folder, "old", b"the old program"), "--or-require", path)
+    expect("./load", run(head.name, path), (0, loaded(b"the new program"), MEANING))
+    head.ends(0, shown(b"the new program", started(b"the new program")))
 
 
 def no_room(folder):
@@ -560,7 +568,7 @@ def cases():
         yield what, meets(peer, status, err, frames, **more)
     for status, err, words, prepare in REFUSED:
         yield f"refused {err[:99]!r}", nothing_sent(status, err, words, prepare)
-    for case in (other_required, no_room, full, full_before, stale, full_disk, unreadable, in_use, speed, readme, usage):
+    for case in (other_required, second_required, no_room, full, full_before, stale, full_disk, unreadable, in_use, speed, readme, usage):
         yield case.__name__, case
     for case in (not_built, elsewhere, dies, closes_unseen, waits, interrupted):
         yield case.__name__, case

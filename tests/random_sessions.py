@@ -16,7 +16,7 @@ from head import PREFIX, headlog
 from sessions import BAD_FLAGS, BAD_SIZES, LARGE_SIZES, SIZES, STOPPING_TYPES, session
 
 HEADLOG = Path(__file__).parent.parent / "target" / "bin" / "headlog"
-SESSIONS = 1200
+SESSIONS = 1456
 MOST_FAILURES = 5
 SECONDS = 60  # for one session
 
@@ -31,6 +31,8 @@ REPLIES = {"0274": "name", "0900": "UDI", "0400": "load taken", "0401": "load no
 EDGES = [f"start of size {n}" for n in SIZES + LARGE_SIZES] + [f"stop at type {t}" for t in STOPPING_TYPES]
 EDGES += [f"start after size {n}" for n in BAD_SIZES] + [f"start after flag {k}" for k in BAD_FLAGS] + ["block after a bad flag"]
 EDGES += [f"not taken, header {h}" for h in ("15", "35", "55", "75")]
+EDGES += [f"start, bit {bit}, {which} right" for bit, which in ((0, "first"), (1, "first"), (1, "second"))]
+EDGES += [f"F 25, bit {bit}, {which} right" for bit, which in ((0, "neither"), (1, "neither"), (0, "second"))]
 
 
 def play(command, data):
@@ -75,7 +77,10 @@ def kinds(s, lines):
 
 def end_kinds(s, last):
     if last[0] == "S":
-        return ["S", s.start_kind(), f"start of size {len(s.program)}", *(f"start after {what}" for what in s.not_taken())]
+        digests = [f"start, {s.digests()}"] if s.type == 5 else []
+        return ["S", s.start_kind(), f"start of size {len(s.program)}", *digests, *(f"start after {what}" for what in s.not_taken())]
+    if last == "F 25":
+        return [last, f"F 25, {s.digests()}"]
     if last == "F 23" and s.flag in BAD_FLAGS:
         return [last, "block after a bad flag"]
     if last in ("F 20", "F 26"):

@@ -96,7 +96,8 @@ STOPS = [f"stopped {k} while {phase}" for k in (22, 23, 24) for phase in ("waiti
 OPEN = ["unfinished while waiting", "unfinished while loading", "unfinished for another endpoint", "waiting", "waiting, and no byte came"]
 OPEN += ["missing 1", "missing 2", "missing 3 or more"]
 ENDS = ["started, type 4", "started, type 5", "bytes after a start", "bytes after a stop"]
-KINDS = ["refused 6", "refused 7", "refused 48", *STOPS, *OPEN, *ENDS]
+DIGESTS = ["started by the second digest", "stopped by both digests", "stopped, the second right and mask bit 1 clear"]
+KINDS = ["refused 6", "refused 7", "refused 48", *STOPS, *OPEN, *ENDS, *DIGESTS]
 
 
 def kinds(reason, record, capture):
@@ -114,8 +115,17 @@ def kinds(reason, record, capture):
         yield f"missing {reason.number}" if reason.number < 3 else "missing 3 or more"
     if reason.kind == "started":
         yield f"started, type {number(record[:4])}"
+    yield from digest_kinds(reason, record)
     if reason.ended() and 0 < reason.byte < len(capture):
         yield f"bytes after a {'start' if reason.kind == 'started' else 'stop'}"
+
+
+def digest_kinds(reason, record):
+    two, is_second = number(record[4:8]) & 2 != 0, reason.digest == record[72:104]
+    if reason.kind == "started" and number(record[:4]) == 5 and two and reason.digest != record[8:40]:
+        yield "started by the second digest"
+    if reason.kind == "stopped" and reason.number == 25 and (two or is_second):
+        yield "stopped by both digests" if two else "stopped, the second right and mask bit 1 clear"
 
 
 def missing_kinds(seen):
@@ -129,8 +139,11 @@ def missing_kinds(seen):
 # ---- what a record and a capture are made of
 
 
-def record_of(kind, required=ZEROS, filler=b"\x5a"):
-    return kind.to_bytes(4, "little") + b"\0" * 4 + required + filler * (RECORD - 40)
+def record_of(kind, first=ZEROS, second=None, mask=None, filler=b"\x5a"):
+    """With mask bit 1 if there is a second digest, or with another mask."""
+    mask = 2 * (second is not None) if mask is None else mask
+    data = kind.to_bytes(4, "little") + mask.to_bytes(4, "little") + first + filler * 32 + (second or b"")
+    return data + filler * (RECORD - len(data))
 
 
 def frame(header, body):

@@ -12,8 +12,8 @@ BAD_FLAGS = range(2, 256)
 STOPPING_TYPES = [0, 1, 2, 3, 6, 0x104, 0x01000004, 0x05000000, 2**32 - 1]
 COMMANDS = [0x01, 0x03, 0x05, 0x08]
 
-# Seeds below this have one bit of the required digest wrong, each another; the others are mixed.
-BITS = 256
+# Seeds below this have one bit of the first or of the second allowed digest wrong, each another; the others are mixed.
+BITS = 512
 
 
 # ---- frames
@@ -63,19 +63,25 @@ class Session:
     mask: int = 0
     flag: int = 0  # of the load that is to be taken
     program: bytes = b""
-    required: bytes = ZEROS
+    first: bytes = ZEROS  # the allowed digests; the second only with mask bit 1
+    second: bytes = ZEROS
     waiting: list = field(default_factory=list)  # frames before the load
     loading: list = field(default_factory=list)  # the load and what follows
     keep: int | None = None  # how many bytes are left of the input
     tail: bytes = b""
 
     def data(self, rng):
-        prefix = little(self.type) + little(self.mask) + self.required + rng.randbytes(PREFIX - 40)
+        prefix = little(self.type) + little(self.mask) + self.first + rng.randbytes(32) + self.second + rng.randbytes(PREFIX - 104)
         return (prefix + b"".join(self.waiting + self.loading))[: self.keep] + self.tail
 
     def start_kind(self):
         chained = "chained" if self.mask & 1 else "direct"
         return f"type {self.type}, {chained}, {'USS' if self.flag == 1 else 'no USS'}"
+
+    def digests(self):
+        """Which of the two the program has, and whether mask bit 1 is set."""
+        right = [which for which in ("first", "second") if getattr(self, which) == blake2s(self.program)]
+        return f"bit {self.mask >> 1 & 1}, {' and '.join(right) or 'neither'} right"
 
     def not_taken(self):
         """The one thing that is bad about a load before the one that is to be taken, for each that has one, as they are sent."""
@@ -90,12 +96,22 @@ class Session:
 
 def draw(rng, size):
     s = Session(type=rng.choice([4, 5]), program=rng.randbytes(size))
-    s.mask = rng.choice([0, 1, 0xFFFFFFFE, 0xFFFFFFFF, rng.getrandbits(32)])
+    s.mask = rng.choice([0, 1, 2, 3, 0xFFFFFFFC, 0xFFFFFFFD, 0xFFFFFFFE, 0xFFFFFFFF, rng.getrandbits(32)])
     s.flag = rng.choice(FLAGS)
-    s.required = blake2s(s.program) if s.type == 5 else rng.randbytes(32)
+    s.first, s.second = rng.randbytes(32), rng.randbytes(32)
+    if s.type == 5:
+        allow(rng, s)
     s.loading = [load(rng, size, s.flag)]
     s.loading += [block(rng, s.program[i : i + 127]) for i in range(0, size, 127)]
     return s
+
+
+def allow(rng, s):
+    """The program's digest is the first or, where mask bit 1 is set, the second."""
+    if s.mask & 2 and rng.random() < 0.5:
+        s.second = blake2s(s.program)
+    else:
+        s.first = blake2s(s.program)
 
 
 # ---- changes after which the program still starts
@@ -149,8 +165,13 @@ def flagged(rng, s):
     s.loading[at] = load(rng, len(s.program), s.flag)
 
 
-def wrong_digest(rng, s):
-    s.type, s.required = 5, rng.randbytes(32)
+def wrong_digests(rng, s):
+    s.type, s.first, s.second = 5, rng.randbytes(32), rng.randbytes(32)
+
+
+def second_without_bit(rng, s):
+    """The second is right, and mask bit 1 is clear."""
+    s.type, s.mask, s.first, s.second = 5, s.mask & ~2, rng.randbytes(32), blake2s(s.program)
 
 
 def header_bit(rng, s):
@@ -218,7 +239,7 @@ def short(rng, s):
 
 
 HARMLESS = [queries, bad_sizes, bad_flags, others, tail]
-HARMFUL = [stopping_type, flagged, wrong_digest, header_bit, other_byte, dropped_byte, doubled_byte, other_length, dropped_frame]
+HARMFUL = [stopping_type, flagged, wrong_digests, second_without_bit, header_bit, other_byte, dropped_byte, doubled_byte, other_length, dropped_frame]
 HARMFUL += [swapped_command, unknown, too_early, too_late, wrong_length, wrong_block_length, noise, cut, short]
 HARMFUL += [stopping_type, cut]
 
@@ -235,8 +256,12 @@ def session(seed):
         if rng.random() < 0.3:
             alter(rng, s)
     if seed < BITS:
-        s.type = 5
-        s.required = (int.from_bytes(blake2s(s.program), "big") ^ 1 << seed).to_bytes(32, "big")
+        wrong_digests(rng, s)
+        wrong = (int.from_bytes(blake2s(s.program), "big") ^ 1 << seed % 256).to_bytes(32, "big")
+        if seed < 256:
+            s.first = wrong
+        else:
+            s.mask, s.second = s.mask | 2, wrong
     elif rng.random() < 0.6:
         rng.choice(HARMFUL)(rng, s)
     return s, s.data(rng)

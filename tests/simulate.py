@@ -31,7 +31,7 @@ STOPS = {
     22: "stopped 22: bit 7 or bit 2 of a header is set\n",
     23: "stopped 23: the command is not allowed now, or unknown\n",
     24: "stopped 24: the command has another body length\n",
-    25: "stopped 25: the program has not the required digest\n",
+    25: "stopped 25: the program's digest is not allowed\n",
     26: "stopped 26: the size of the program in flash is 0, over the slot or over the RAM\n",
 }
 NAME = (b"\x10\x01", server.whole(0, b"\x02tk1 mkdf\x01", 32))
@@ -167,6 +167,19 @@ def other_digest(folder):
     head.ends(25, shown(b"another program", STOPS[25]))
 
 
+def changeover(folder):
+    """Either of two programs starts, and no other."""
+    old, new, other = b"the old program", b"the new program", b"another program"
+    options = ["--require", written(folder, "old", old), "--or-require", written(folder, "new", new)]
+    for program, measured_id in ((old, None), (new, None), (new, b"m" * 32)):
+        head = Head(*options, *(["--measured-id", measured_id.hex()] if measured_id else []))
+        head.load(program)
+        head.ends(0, shown(program, started(program, measured_id=measured_id)))
+    head = Head(*options)
+    head.load(other)
+    head.ends(25, shown(other, STOPS[25]))
+
+
 def stops(number, sent):
     """The head stops, with the lamp's reason."""
     return lambda folder: Head().stops(sent, number, "waiting\n" + STOPS[number])
@@ -211,6 +224,17 @@ def flash_other_digest(folder):
         slots = [f"--slot{kind % 2}", path, f"--slot{1 - kind % 2}", other]
         boots(25, STOPS[25], "--type", kind, "--require", other, *slots)
         boots(25, STOPS[25], "--type", kind, "--require", front, *slots, "--measured-id", blake2s(program).hex())
+
+
+def flash_changeover(folder):
+    """Of the two programs either may be the one in the slot; type 0 takes no other."""
+    program = b"a program in flash"
+    path, other, third = (written(folder, f"changeover {k}", data) for k, data in enumerate([program, b"other", b"third"]))
+    for kind in (2, 3):
+        slots = ["--type", kind, f"--slot{kind % 2}", path, f"--slot{1 - kind % 2}", other]
+        boots(0, started(program), *slots, "--require", path, "--or-require", other)
+        boots(0, started(program), *slots, "--require", other, "--or-require", path)
+        boots(25, STOPS[25], *slots, "--require", other, "--or-require", third)
 
 
 def flash_size(folder):
@@ -295,6 +319,12 @@ BAD = [
     "--slot1",
     "--slot $0",
     "--require 'no such file'",
+    "--or-require $0",
+    "--require $0 --or-require",
+    "--require $0 --or-require 'no such file'",
+    "--type 0 --require $0 --or-require $0",
+    "--type 1 --or-require $0",
+    "--type 4 --or-require $0",
     "--require /",
     "--require",
     "--ram 0",

@@ -11,7 +11,8 @@ use lib.Seq.{length-take-le}
 use Rattle.endian.specs.Endian.{word}
 use Rattle.framing.specs.Header.{Reading, good, stop, headerAt, fieldsAt, headerByte}
 use Rattle.record.specs.Record.{recordAt}
-use Rattle.record.specs.Types.{isType}
+use Rattle.record.specs.Types.{isType, digestsOf}
+use Rattle.record.specs.declared.Digests.{Digests}
 use Rattle.protocol.specs.Commands.{loadIn, isLast}
 use Rattle.protocol.specs.Replies.{nameReply, replyHeader, putIn}
 use Rattle.head.specs.State.{isWhole, inRange, ended}
@@ -100,15 +101,15 @@ report (Started a n) (Started b m) e f = cc
 
 ended-sized : (p : Phase) (m : ℕ) → Sized (ended p m)
 unfolding ended
-ended-sized p m = record { body = refl; required = refl; measured = refl; udi = refl; uss = refl }
+ended-sized p m = record { body = refl; first = refl; measured = refl; udi = refl; uss = refl; second = refl }
 
 module _ (s : State) (z : Sized s) where
   -- with another frame, or another progress, of which the arrays have their lengths
   framed : (i : Incoming) → length (i .body) ≡ 128 → Sized (withIncoming s i)
-  framed i l = record { body = l; required = z .required; measured = z .measured; udi = z .udi; uss = z .uss }
+  framed i l = record { body = l; first = z .first; measured = z .measured; udi = z .udi; uss = z .uss; second = z .second }
 
   going-on : (p : Progress) → length (p .uss) ≡ 32 → Sized (between s p)
-  going-on p l = record { body = refl; required = z .required; measured = z .measured; udi = z .udi; uss = l }
+  going-on p l = record { body = refl; first = z .first; measured = z .measured; udi = z .udi; uss = l; second = z .second }
 
   opened-sized : (b : ℕ) (r : Reading) → Sized (afterStep (opened r (s .incoming) b) s .state)
   opened-sized b (good id ep n) = framed _ (z .body)
@@ -167,10 +168,11 @@ begun-sized bytes udi f ram uds l u d =
       wait = λ h.
           record {
             body = refl;
-            required = by-test (λ (x : List ℕ). length x ≡ 32) (isType (recordAt bytes .type) 0) (f .builtIn) (take 32 (drop 8 bytes)) (λ t. d) (λ t. long 8 (omega arith));
+            first = allowed-sized .0;
             measured = long 40 (omega arith);
             udi = u;
             uss = refl;
+            second = allowed-sized .1;
           };
       unknown = λ h. ended-sized _ (length ram);
       unfit = λ h. ended-sized _ (length ram);
@@ -180,6 +182,12 @@ begun-sized bytes udi f ram uds l u d =
   where
     long : (from : ℕ) → from + 32 ≤ 256 → length (take 32 (drop from bytes)) ≡ 32
     long from h = length-take-le 32 (drop from bytes) (rw length-drop (omega arith))
+
+    -- the built-in digest, or those of the record
+    allowed-sized : let a = digestsOf (recordAt bytes .type) (f .builtIn) (recordAt bytes .digests) in (length (a .first) ≡ 32) × (length (a .second) ≡ 32)
+    allowed-sized =
+        by-test (λ (a : Digests). (length (a .first) ≡ 32) × (length (a .second) ≡ 32)) (isType (recordAt bytes .type) 0) _ _ (λ t. (d, refl))
+        (λ t. (long 8 (omega arith), by-test (λ (x : List ℕ). length x ≡ 32) (recordAt bytes .digests .«has_second») _ _ (λ u. long 72 (omega arith)) (λ u. refl)))
 
 -- ---- the calls on the memory of a state
 

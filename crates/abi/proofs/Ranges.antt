@@ -146,7 +146,7 @@ module _ (n b : List ℕ) where
           (g .0, g .1)
 
     -- refused: the memory that holds a state is that state's
-    pub refuses : length n ≡ 3 → length b ≡ 236 → (r ≡ 0 → ⊥) → (x : ℕ) → gatherTold r (lent n b) ≡ gatherCall (lent n b) x
+    pub refuses : length n ≡ 3 → length b ≡ 268 → (r ≡ 0 → ⊥) → (x : ℕ) → gatherTold r (lent n b) ≡ gatherCall (lent n b) x
     unfolding gatherCall gathered
     refuses ln lb z x = go (holds b) refl e
       where

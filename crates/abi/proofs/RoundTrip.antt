@@ -1,17 +1,17 @@
 -- A state's memory holds that state, and memory that holds a state is that state's memory.
-use Prim.Native.Nat.{ℕ, zero, suc, _+_, _≤_}
-use mathlib.Core.Path.{_≡_, refl, ap, _∙_}
+use Prim.Native.Nat.{ℕ, zero, suc, _+_, _*_, _/_, _%_, _≤_}
+use mathlib.Core.Path.{_≡_, refl, sym, ap, _∙_}
 use mathlib.Core.List.{List, [], _∷_, _++_, append-assoc}
 use mathlib.Core.Bool.{Bool, true, false, and-eq-true-iff}
 use native.Mathlib.Omega.{arith}
-use lib.Dec.{leb}
+use lib.Dec.{eqb, leb}
 use lib.ListN.{length, getD, take, drop, length-append, length-drop}
-use lib.Seq.{getD-append-add, drop-append-add, take-at, take-all, take-add, drop-cons, length-take-le}
+use lib.Seq.{getD-append-add, drop-append-add, drop-at, drop-drop, take-at, take-all, take-add, drop-cons, length-take-le}
 use borrow.Author.Tests.{leb-true, le-leb}
 use Rattle.head.specs.declared.Phase.{Phase}
 use Rattle.head.specs.declared.Phase.the-variants.{Waiting, Loading, Started, Stopped}
 use Rattle.head.specs.declared.State.{State}
-use Rattle.abi.specs.Layout.{Memory, lent, phaseNumber, phaseOf, flagsOf, flagIn, holds, stateIn, memoryOf}
+use Rattle.abi.specs.Layout.{Memory, lent, phaseNumber, phaseOf, asBit, flagsOf, flagsIn, flagIn, holds, stateIn, memoryOf}
 use Rattle.abi.specs.Theorems.{Sized, Lengths}
 
 -- ---- phases and flags
@@ -29,37 +29,58 @@ phase-forth (suc (suc zero)) h = refl
 phase-forth (suc (suc (suc zero))) h = refl
 phase-forth (suc (suc (suc (suc k)))) h = absurd (omega arith)
 
-record Flags (v c u : Bool) : Type 0 where
-  verify : flagIn 1 (flagsOf v c u) ≡ v
-  chained : flagIn 2 (flagsOf v c u) ≡ c
-  used : flagIn 4 (flagsOf v c u) ≡ u
-  small : flagsOf v c u ≤ 7
+-- each flag is a bit
+at-most-1 : (t : Bool) → asBit t ≤ 1
+at-most-1 true = omega arith
+at-most-1 false = omega arith
 
-flags-back : (v c u : Bool) → Flags v c u
-flags-back false false false = record { verify = refl; chained = refl; used = refl; small = omega arith }
-flags-back false false true = record { verify = refl; chained = refl; used = refl; small = omega arith }
-flags-back false true false = record { verify = refl; chained = refl; used = refl; small = omega arith }
-flags-back false true true = record { verify = refl; chained = refl; used = refl; small = omega arith }
-flags-back true false false = record { verify = refl; chained = refl; used = refl; small = omega arith }
-flags-back true false true = record { verify = refl; chained = refl; used = refl; small = omega arith }
-flags-back true true false = record { verify = refl; chained = refl; used = refl; small = omega arith }
-flags-back true true true = record { verify = refl; chained = refl; used = refl; small = omega arith }
+from-bit : (t : Bool) (k : ℕ) → k ≡ asBit t → eqb k 1 ≡ t
+from-bit true k e = rw e
+from-bit false k e = rw e
 
-flags-forth : (k : ℕ) → k ≤ 7 → flagsOf (flagIn 1 k) (flagIn 2 k) (flagIn 4 k) ≡ k
-flags-forth zero h = refl
-flags-forth (suc zero) h = refl
-flags-forth (suc (suc zero)) h = refl
-flags-forth (suc (suc (suc zero))) h = refl
-flags-forth (suc (suc (suc (suc zero)))) h = refl
-flags-forth (suc (suc (suc (suc (suc zero))))) h = refl
-flags-forth (suc (suc (suc (suc (suc (suc zero)))))) h = refl
-flags-forth (suc (suc (suc (suc (suc (suc (suc zero))))))) h = refl
-flags-forth (suc (suc (suc (suc (suc (suc (suc (suc k)))))))) h = absurd (omega arith)
+to-bit : (k : ℕ) → k ≤ 1 → asBit (eqb k 1) ≡ k
+to-bit zero h = refl
+to-bit (suc zero) h = refl
+to-bit (suc (suc k)) h = absurd (omega arith)
 
-pub holds-facts : (b : List ℕ) → holds b ≡ true → (getD b 130 0 ≤ 3) × (getD b 131 0 ≤ 7)
+record Flags (v c u s : Bool) : Type 0 where
+  verify : flagIn 1 (flagsOf v c u s) ≡ v
+  chained : flagIn 2 (flagsOf v c u s) ≡ c
+  used : flagIn 4 (flagsOf v c u s) ≡ u
+  second : flagIn 8 (flagsOf v c u s) ≡ s
+  small : flagsOf v c u s ≤ 15
+
+flags-back : (v c u s : Bool) → Flags v c u s
+flags-back v c u s =
+    let k = flagsOf v c u s in
+    let lv = at-most-1 v in
+    let lc = at-most-1 c in
+    let lu = at-most-1 u in
+    let ls = at-most-1 s in
+    let q1 : k / 1 ≡ k = omega arith in
+    let q2 : k / 2 ≡ asBit c + 2 * asBit u + 4 * asBit s = omega arith in
+    let q4 : k / 4 ≡ asBit u + 2 * asBit s = omega arith in
+    let q8 : k / 8 ≡ asBit s = omega arith in
+    record {
+      verify = from-bit v (k / 1 % 2) (omega arith);
+      chained = from-bit c (k / 2 % 2) (omega arith);
+      used = from-bit u (k / 4 % 2) (omega arith);
+      second = from-bit s (k / 8 % 2) (omega arith);
+      small = omega arith;
+    }
+
+flags-forth : (k : ℕ) → k ≤ 15 → flagsOf (flagIn 1 k) (flagIn 2 k) (flagIn 4 k) (flagIn 8 k) ≡ k
+flags-forth k h =
+    let q1 : k / 1 ≡ k = omega arith in
+    let q2 : k / 2 ≡ 2 * (k / 4) + k / 2 % 2 = omega arith in
+    let q4 : k / 4 ≡ 2 * (k / 8) + k / 4 % 2 = omega arith in
+    let q8 : k / 8 % 2 ≡ k / 8 = omega arith in
+    rw (to-bit (k / 1 % 2) (omega arith), to-bit (k / 2 % 2) (omega arith), to-bit (k / 4 % 2) (omega arith), to-bit (k / 8 % 2) (omega arith)) (omega arith)
+
+pub holds-facts : (b : List ℕ) → holds b ≡ true → (getD b 130 0 ≤ 3) × (getD b 131 0 ≤ 15)
 holds-facts b e =
     let a = and-eq-true-iff (leb (getD b 130 0) 3) _ .0 e in
-    (leb-true (getD b 130 0) 3 (a .0), leb-true (getD b 131 0) 7 (a .1))
+    (leb-true (getD b 130 0) 3 (a .0), leb-true (getD b 131 0) 15 (a .1))
 
 -- ---- from the state
 
@@ -70,18 +91,20 @@ past-drop : (xs ys : List ℕ) (k : ℕ) → length xs ≡ k → (i : ℕ) → d
 past-drop xs ys k e i = rw (← e) (drop-append-add xs ys i)
 
 module _ (s : State) (z : Sized s) where
+  abbrev tail4 : List ℕ
+  tail4 = s .progress .uss ++ s .config .digests .second
+
   abbrev tail3 : List ℕ
-  tail3 = s .config .udi ++ s .progress .uss
+  tail3 = s .config .udi ++ tail4
 
   abbrev tail2 : List ℕ
   tail2 = s .config .«measured_id» ++ tail3
 
   abbrev tail1 : List ℕ
-  tail1 = s .config .required ++ tail2
+  tail1 = s .config .digests .first ++ tail2
 
   abbrev small : List ℕ
-  small =
-      s .incoming .header ∷ s .incoming .got ∷ phaseNumber (s .progress .phase) ∷ flagsOf (s .config .verify) (s .config .chained) (s .progress .«uss_used») ∷ tail1
+  small = s .incoming .header ∷ s .incoming .got ∷ phaseNumber (s .progress .phase) ∷ flagsIn s ∷ tail1
 
   abbrev all : List ℕ
   all = s .incoming .body ++ small
@@ -93,42 +116,51 @@ module _ (s : State) (z : Sized s) where
   one : (i : ℕ) → getD all (128 + i) 0 ≡ getD small i 0
   one = past (s .incoming .body) small 128 (z .body)
 
-  part : (i : ℕ) → drop (128 + i) all ≡ drop i small
-  part = past-drop (s .incoming .body) small 128 (z .body)
+  -- from the end of each part on
+  past-part : (from n : ℕ) (x y : List ℕ) → drop from all ≡ x ++ y → length x ≡ n → drop (from + n) all ≡ y
+  past-part from n x y e l = sym (drop-drop n from all) ∙ ap (drop n) e ∙ drop-at x y n l
 
-  required-back : take 32 (drop 132 all) ≡ s .config .required
-  required-back = ap (take 32) (part 4) ∙ take-at (s .config .required) tail2 32 (z .required)
+  at-first : drop 132 all ≡ tail1
+  at-first = past-drop (s .incoming .body) small 128 (z .body) 4
+
+  at-measured : drop 164 all ≡ tail2
+  at-measured = past-part 132 32 (s .config .digests .first) tail2 at-first (z .first)
+
+  at-udi : drop 196 all ≡ tail3
+  at-udi = past-part 164 32 (s .config .«measured_id») tail3 at-measured (z .measured)
+
+  at-uss : drop 204 all ≡ tail4
+  at-uss = past-part 196 8 (s .config .udi) tail4 at-udi (z .udi)
+
+  at-second : drop 236 all ≡ s .config .digests .second
+  at-second = past-part 204 32 (s .progress .uss) (s .config .digests .second) at-uss (z .uss)
+
+  first-back : take 32 (drop 132 all) ≡ s .config .digests .first
+  first-back = ap (take 32) at-first ∙ take-at (s .config .digests .first) tail2 32 (z .first)
 
   measured-back : take 32 (drop 164 all) ≡ s .config .«measured_id»
-  measured-back =
-      ap (take 32) (part 36 ∙ past-drop (s .config .required) tail2 32 (z .required) 0) ∙ take-at (s .config .«measured_id») tail3 32 (z .measured)
+  measured-back = ap (take 32) at-measured ∙ take-at (s .config .«measured_id») tail3 32 (z .measured)
 
   udi-back : take 8 (drop 196 all) ≡ s .config .udi
-  udi-back =
-      ap (take 8)
-      (part 68 ∙ past-drop (s .config .required) tail2 32 (z .required) 32 ∙ past-drop (s .config .«measured_id») tail3 32 (z .measured) 0)
-      ∙ take-at (s .config .udi) (s .progress .uss) 8 (z .udi)
+  udi-back = ap (take 8) at-udi ∙ take-at (s .config .udi) tail4 8 (z .udi)
 
   uss-back : take 32 (drop 204 all) ≡ s .progress .uss
-  uss-back =
-      ap (take 32)
-      (part 76
-      ∙ past-drop (s .config .required) tail2 32 (z .required) 40
-      ∙ past-drop (s .config .«measured_id») tail3 32 (z .measured) 8
-      ∙ past-drop (s .config .udi) (s .progress .uss) 8 (z .udi) 0)
-      ∙ take-all 32 (s .progress .uss) (let u = z .uss in omega arith)
+  uss-back = ap (take 32) at-uss ∙ take-at (s .progress .uss) (s .config .digests .second) 32 (z .uss)
+
+  second-back : take 32 (drop 236 all) ≡ s .config .digests .second
+  second-back = ap (take 32) at-second ∙ take-all 32 (s .config .digests .second) (let u = z .second in omega arith)
 
   held : holds all ≡ true
   held =
-      let f = flags-back (s .config .verify) (s .config .chained) (s .progress .«uss_used») in
+      let f = flags-back (s .config .verify) (s .config .chained) (s .progress .«uss_used») (s .config .digests .«has_second») in
       rw (one 2, one 3, le-leb _ _ (phase-back (s .progress .phase) .1), le-leb _ _ (f .small))
 
   at-all : stateIn (lent (memoryOf s .numbers) all) ≡ s
   unfolding stateIn memoryOf
   at-all =
-      let f = flags-back (s .config .verify) (s .config .chained) (s .progress .«uss_used») in
+      let f = flags-back (s .config .verify) (s .config .chained) (s .progress .«uss_used») (s .config .digests .«has_second») in
       let b : take 128 all ≡ s .incoming .body = take-at (s .incoming .body) small 128 (z .body) in
-      rw (one 0, one 1, one 2, one 3, b, required-back, measured-back, udi-back, uss-back, f .verify, f .chained, f .used, phase-back (s .progress .phase) .0)
+      rw (one 0, one 1, one 2, one 3, b, first-back, measured-back, udi-back, uss-back, second-back, f .verify, f .chained, f .used, f .second, phase-back (s .progress .phase) .0)
 
   pub back : (holds (memoryOf s .bytes) ≡ true) × (stateIn (memoryOf s) ≡ s)
   back = (rw in-parts held, ap (λ (b : List ℕ). stateIn (lent (memoryOf s .numbers) b)) in-parts ∙ at-all)
@@ -137,15 +169,17 @@ module _ (s : State) (z : Sized s) where
   unfolding memoryOf
   lengths =
       let b = z .body in
-      let r = z .required in
+      let r = z .first in
       let m = z .measured in
       let u = z .udi in
       let w = z .uss in
+      let v = z .second in
       let l = length-append (s .incoming .body) small in
-      let l1 = length-append (s .config .required) tail2 in
+      let l1 = length-append (s .config .digests .first) tail2 in
       let l2 = length-append (s .config .«measured_id») tail3 in
-      let l3 = length-append (s .config .udi) (s .progress .uss) in
-      let e : length (memoryOf s .bytes) ≡ 236 = ap length in-parts ∙ omega arith in
+      let l3 = length-append (s .config .udi) tail4 in
+      let l4 = length-append (s .progress .uss) (s .config .digests .second) in
+      let e : length (memoryOf s .bytes) ≡ 268 = ap length in-parts ∙ omega arith in
       record { numbers = refl; bytes = e }
 
 -- ---- from the memory
@@ -154,7 +188,7 @@ module _ (m : Memory) (l : Lengths m) where
   abbrev b : List ℕ
   b = m .bytes
 
-  long : (i k : ℕ) → i + k ≤ 236 → length (take k (drop i b)) ≡ k
+  long : (i k : ℕ) → i + k ≤ 268 → length (take k (drop i b)) ≡ k
   long i k h = let n = l .bytes in length-take-le k (drop i b) (rw length-drop (omega arith))
 
   pub sized : Sized (stateIn m)
@@ -162,10 +196,11 @@ module _ (m : Memory) (l : Lengths m) where
   sized =
       record {
         body = length-take-le 128 b (let n = l .bytes in omega arith);
-        required = long 132 32 (omega arith);
+        first = long 132 32 (omega arith);
         measured = long 164 32 (omega arith);
         udi = long 196 8 (omega arith);
         uss = long 204 32 (omega arith);
+        second = long 236 32 (omega arith);
       }
 
   four : take 4 (drop 128 b) ≡ getD b 128 0 ∷ getD b 129 0 ∷ getD b 130 0 ∷ getD b 131 0 ∷ []
@@ -181,10 +216,10 @@ module _ (m : Memory) (l : Lengths m) where
   three (x ∷ y ∷ z ∷ w ∷ n) e = absurd (omega arith)
 
   joined : take 128 b ++ (getD b 128 0 ∷ getD b 129 0 ∷ getD b 130 0 ∷ getD b 131 0 ∷ []) ++ take 32 (drop 132 b) ++ take 32 (drop 164 b) ++ take 8 (drop 196 b)
-      ++ take 32 (drop 204 b) ≡ b
+      ++ take 32 (drop 204 b) ++ take 32 (drop 236 b) ≡ b
   joined =
       let n = l .bytes in
-      rw (← four, ← (take-add 128 4 b), ← (take-add 132 32 b), ← (take-add 164 32 b), ← (take-add 196 8 b), ← (take-add 204 32 b)) (take-all 236 b (omega arith))
+      rw (← four, ← (take-add 128 4 b), ← (take-add 132 32 b), ← (take-add 164 32 b), ← (take-add 196 8 b), ← (take-add 204 32 b), ← (take-add 236 32 b)) (take-all 268 b (omega arith))
 
   pub forth : holds b ≡ true → memoryOf (stateIn m) ≡ m
   unfolding stateIn memoryOf

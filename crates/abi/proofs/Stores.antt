@@ -13,8 +13,8 @@ use Rattle.head.specs.declared.Phase.the-variants.{Stopped}
 use Rattle.abi.specs.Layout.{Memory, lent, holds, stateIn, memoryOf}
 use Rattle.abi.proofs.RoundTrip.{forth}
 
-module _ (n b : List ℕ) (numbers : length n ≡ 3) (full : length b ≡ 236) (held : holds b ≡ true) where
-  module _ (b' : List ℕ) (full' : length b' ≡ 236) (rest : drop 130 b' ≡ drop 130 b) where
+module _ (n b : List ℕ) (numbers : length n ≡ 3) (full : length b ≡ 268) (held : holds b ≡ true) where
+  module _ (b' : List ℕ) (full' : length b' ≡ 268) (rest : drop 130 b' ≡ drop 130 b) where
     one : (i : ℕ) → getD b' (130 + i) 0 ≡ getD b (130 + i) 0
     one i = sym (getD-drop 130 b' i 0) ∙ ap (λ (l : List ℕ). getD l i 0) rest ∙ getD-drop 130 b i 0
 
@@ -32,7 +32,8 @@ module _ (n b : List ℕ) (numbers : length n ≡ 3) (full : length b ≡ 236) (
         let m : drop 164 b' ≡ drop 164 b = part 34 in
         let u : drop 196 b' ≡ drop 196 b = part 66 in
         let w : drop 204 b' ≡ drop 204 b = part 74 in
-        rw (eh, eg, eb, p, f, r, m, u, w)
+        let d : drop 236 b' ≡ drop 236 b = part 106 in
+        rw (eh, eg, eb, p, f, r, m, u, w, d)
 
     framed : (h g : ℕ) (body : List ℕ) → getD b' 128 0 ≡ h → getD b' 129 0 ≡ g → take 128 b' ≡ body
         → lent n b' ≡ memoryOf (withIncoming (stateIn (lent n b)) (record { header = h; got = g; body = body }))
@@ -79,7 +80,7 @@ module _ (n b : List ℕ) (numbers : length n ≡ 3) (full : length b ≡ 236) (
       (take-set-le 128 b 129 g (omega arith))
 
   -- the end of a frame that is passed over, with z the memory after the body is cleared
-  idle-at : (z : List ℕ) → length z ≡ 236 → drop 130 z ≡ drop 130 b → take 128 z ≡ zeros 128
+  idle-at : (z : List ℕ) → length z ≡ 268 → drop 130 z ≡ drop 130 b → take 128 z ≡ zeros 128
       → lent n (set (set z 128 0) 129 0) ≡ memoryOf (withIncoming (stateIn (lent n b)) idle)
   idle-at z l d t =
       framed (set (set z 128 0) 129 0) (rw (length-set, length-set) l)
@@ -91,14 +92,14 @@ module _ (n b : List ℕ) (numbers : length n ≡ 3) (full : length b ≡ 236) (
       (getD-set-same (set z 128 0) 129 0 0 (rw length-set (omega arith)))
       (take-set-le 128 (set z 128 0) 129 0 (omega arith) ∙ take-set-le 128 z 128 0 (omega arith) ∙ t)
 
-  cleared-length : length (zeros 128 ++ drop 128 b) ≡ 236
+  cleared-length : length (zeros 128 ++ drop 128 b) ≡ 268
   cleared-length = length-append (zeros 128) (drop 128 b) ∙ ap (λ (k : ℕ). 128 + k) (length-drop 128 b ∙ ap (λ (k : ℕ). k - 128) full)
 
   pub idle-in : lent n (set (set (zeros 128 ++ drop 128 b) 128 0) 129 0) ≡ memoryOf (withIncoming (stateIn (lent n b)) idle)
   idle-in = idle-at (zeros 128 ++ drop 128 b) cleared-length (drop-drop 2 128 b) refl
 
 -- a stop
-pub ended-in : (n : List ℕ) → length n ≡ 3 → lent (set (set n 1 0) 2 0) (set (zeros 236) 130 3) ≡ memoryOf (ended Stopped (getD n 0 0))
+pub ended-in : (n : List ℕ) → length n ≡ 3 → lent (set (set n 1 0) 2 0) (set (zeros 268) 130 3) ≡ memoryOf (ended Stopped (getD n 0 0))
 unfolding memoryOf ended
 ended-in [] e = absurd (omega arith)
 ended-in (x ∷ []) e = absurd (omega arith)

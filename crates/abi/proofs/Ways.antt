@@ -64,12 +64,12 @@ module _ (s : State) (x : ℕ) where
 
 -- ---- of the memory
 
-module _ (n b : List ℕ) (x : ℕ) (numbers : length n ≡ 3) (full : length b ≡ 236) (held : holds b ≡ true) where
+module _ (n b : List ℕ) (x : ℕ) (numbers : length n ≡ 3) (full : length b ≡ 268) (held : holds b ≡ true) where
   pub opens : isGood (headerAt x) ≡ true → getD b 129 0 ≡ 0 → gatherTold 0 (lent n (set (set b 128 x) 129 1)) ≡ admitted (lent n b) x
   unfolding admitted stateIn
   opens c e = ap (gatherTold 0) (opened-in n b numbers full held x) ∙ sym (opened-by (stateIn (lent n b)) x _ _ _ (good-at x c) e)
 
-  pub stops : isGood (headerAt x) ≡ false → getD b 129 0 ≡ 0 → gatherTold 22 (lent (set (set n 1 0) 2 0) (set (zeros 236) 130 3)) ≡ admitted (lent n b) x
+  pub stops : isGood (headerAt x) ≡ false → getD b 129 0 ≡ 0 → gatherTold 22 (lent (set (set n 1 0) 2 0) (set (zeros 268) 130 3)) ≡ admitted (lent n b) x
   unfolding admitted stateIn
   stops c e = ap (gatherTold 22) (ended-in n numbers) ∙ sym (stopped-by (stateIn (lent n b)) x c e)
 

@@ -1,7 +1,8 @@
 -- The state of a head as memory that C lends: which memory holds which state, and which holds none. include/mastfrap.h has the same table.
 --     numbers, of 32 bits   0 the RAM's length, 1 the program's size, 2 the block that is waited for
 --     bytes                 0 to 127 the body of the frame, 128 its header, 129 how many of its bytes have come, 130 the phase, 131 the flags,
---                           132 to 163 the required digest, 164 to 195 measured_id, 196 to 203 the UDI, 204 to 235 the user secret
+--                           132 to 163 the first allowed digest, 164 to 195 measured_id, 196 to 203 the UDI, 204 to 235 the user secret, 236 to 267
+--                           the second allowed digest
 use Prim.Native.Nat.{ℕ, _+_, _*_, _/_, _%_}
 use mathlib.Core.Bool.{Bool, cond, _&&_}
 use mathlib.Core.List.{List, [], _∷_, _++_}
@@ -29,20 +30,20 @@ phaseNumber Stopped = 3
 abbrev pub phaseOf : ℕ → Phase
 phaseOf k = cond (eqb k 0) Waiting (cond (eqb k 1) Loading (cond (eqb k 2) Started Stopped))
 
--- the flags as one number: 1 verify, 2 chained, 4 uss_used
+-- the flags as one number: 1 verify, 2 chained, 4 uss_used, 8 has_second
 abbrev pub asBit : Bool → ℕ
 asBit t = cond t 1 0
 
-abbrev pub flagsOf : Bool → Bool → Bool → ℕ
-flagsOf verify chained used = asBit verify + 2 * asBit chained + 4 * asBit used
+abbrev pub flagsOf : Bool → Bool → Bool → Bool → ℕ
+flagsOf verify chained used second = asBit verify + 2 * asBit chained + 4 * asBit used + 8 * asBit second
 
--- and back: the flag of weight w; a number over 7 is no flags
+-- and back: the flag of weight w; a number over 15 is no flags
 abbrev pub flagIn : ℕ → ℕ → Bool
 flagIn w k = eqb (k / w % 2) 1
 
 -- memory with these bytes holds a state unless its phase or its flags are none
 abbrev pub holds : List ℕ → Bool
-holds b = leb (getD b 130 0) 3 && leb (getD b 131 0) 7
+holds b = leb (getD b 130 0) 3 && leb (getD b 131 0) 15
 
 -- the state that it holds
 unfoldable pub stateIn : Memory → State
@@ -54,11 +55,11 @@ stateIn m =
       config =
           record {
             «ram_len» = getD n 0 0;
-            verify = flagIn 1 (getD b 131 0);
-            required = take 32 (drop 132 b);
-            chained = flagIn 2 (getD b 131 0);
             «measured_id» = take 32 (drop 164 b);
             udi = take 8 (drop 196 b);
+            digests = record { first = take 32 (drop 132 b); second = take 32 (drop 236 b); «has_second» = flagIn 8 (getD b 131 0) };
+            verify = flagIn 1 (getD b 131 0);
+            chained = flagIn 2 (getD b 131 0);
           };
       progress =
           record {
@@ -70,15 +71,18 @@ stateIn m =
           };
     }
 
+-- the flags of a state
+abbrev pub flagsIn : State → ℕ
+flagsIn s = flagsOf (s .config .verify) (s .config .chained) (s .progress .«uss_used») (s .config .digests .«has_second»)
+
 -- the four bytes after the body
 abbrev pub smallOf : State → List ℕ
-smallOf s =
-    s .incoming .header ∷ s .incoming .got ∷ phaseNumber (s .progress .phase) ∷ flagsOf (s .config .verify) (s .config .chained) (s .progress .«uss_used») ∷ []
+smallOf s = s .incoming .header ∷ s .incoming .got ∷ phaseNumber (s .progress .phase) ∷ flagsIn s ∷ []
 
 -- the memory of a state
 unfoldable pub memoryOf : State → Memory
 memoryOf s =
     record {
       numbers = s .config .«ram_len» ∷ s .progress .size ∷ s .progress .block ∷ [];
-      bytes = s .incoming .body ++ smallOf s ++ s .config .required ++ s .config .«measured_id» ++ s .config .udi ++ s .progress .uss;
+      bytes = s .incoming .body ++ smallOf s ++ s .config .digests .first ++ s .config .«measured_id» ++ s .config .udi ++ s .progress .uss ++ s .config .digests .second;
     }

@@ -19,15 +19,16 @@ use Rattle.abi.specs.Calls.{answerNumber, startOf, Start, startIn, Gathe
 -- the arrays have their lengths, as those of every value of the type do
 pub record Sized (s : State) : Type 0 where
   pub body : length (s .incoming .body) ≡ 128
-  pub required : length (s .config .required) ≡ 32
+  pub first : length (s .config .digests .first) ≡ 32
   pub measured : length (s .config .«measured_id») ≡ 32
   pub udi : length (s .config .udi) ≡ 8
   pub uss : length (s .progress .uss) ≡ 32
+  pub second : length (s .config .digests .second) ≡ 32
 
 -- memory of the lengths that are lent
 pub record Lengths (m : Memory) : Type 0 where
   pub numbers : length (m .numbers) ≡ 3
-  pub bytes : length (m .bytes) ≡ 236
+  pub bytes : length (m .bytes) ≡ 268
 
 -- the numbers of refusals
 abbrev pub isRefusal : ℕ → Bool
@@ -43,10 +44,10 @@ abbrev pub callsOn : Memory → List Call → List GatherCall
 callsOn m [] = []
 callsOn m (c ∷ cs) = callOn m c ∷ callsOn (callOn m c .memory) cs
 
--- ---- an example, as literal bytes: the record of type 5 with RESET_SEED, the UDI 1 to 8, two bytes of RAM, and nothing in flash
+-- ---- an example, as literal bytes: the record of type 5 with RESET_SEED and two digests, the UDI 1 to 8, two bytes of RAM, and nothing in flash
 
 abbrev pub exampleRecord : List ℕ
-exampleRecord = (5 ∷ 0 ∷ 0 ∷ 0 ∷ 1 ∷ 0 ∷ 0 ∷ 0 ∷ []) ++ replicate 32 0xaa ++ replicate 32 0xbb ++ zeros 184
+exampleRecord = (5 ∷ 0 ∷ 0 ∷ 0 ∷ 3 ∷ 0 ∷ 0 ∷ 0 ∷ []) ++ replicate 32 0xaa ++ replicate 32 0xbb ++ replicate 32 0xcc ++ zeros 152
 
 abbrev pub exampleUdi : List ℕ
 exampleUdi = 1 ∷ 2 ∷ 3 ∷ 4 ∷ 5 ∷ 6 ∷ 7 ∷ 8 ∷ []
@@ -54,7 +55,8 @@ exampleUdi = 1 ∷ 2 ∷ 3 ∷ 4 ∷ 5 ∷ 6 ∷ 7 ∷ 8 ∷ []
 -- its memory with these bytes of a frame, header and count
 abbrev pub exampleMemory : List ℕ → ℕ → ℕ → Memory
 exampleMemory body header got =
-    lent (2 ∷ 0 ∷ 0 ∷ []) (padded 128 body ++ (header ∷ got ∷ 0 ∷ 3 ∷ []) ++ replicate 32 0xaa ++ replicate 32 0xbb ++ exampleUdi ++ zeros 32)
+    lent (2 ∷ 0 ∷ 0 ∷ [])
+    (padded 128 body ++ (header ∷ got ∷ 0 ∷ 11 ∷ []) ++ replicate 32 0xaa ++ replicate 32 0xbb ++ exampleUdi ++ zeros 32 ++ replicate 32 0xcc)
 
 -- what begin, the query 10 01 byte by byte, and the acting on it leave
 pub record Example : Type 0 where
@@ -69,7 +71,7 @@ pub record Example : Type 0 where
       (0 ∷ 0 ∷ [])
       (zeros 8)
   -- a bad header stops: of the memory only the RAM's length and the phase are left
-  pub stop : gatherCall (exampleMemory [] 0 0) 0x90 ≡ gatherTold 22 (lent (2 ∷ 0 ∷ 0 ∷ []) (zeros 130 ++ (3 ∷ []) ++ zeros 105))
+  pub stop : gatherCall (exampleMemory [] 0 0) 0x90 ≡ gatherTold 22 (lent (2 ∷ 0 ∷ 0 ∷ []) (zeros 130 ++ (3 ∷ []) ++ zeros 137))
 
 pub record AbiTheorems : Type 0 where
   -- a state's memory has these lengths and holds that state

@@ -43,7 +43,7 @@ fn numbers_ok(ram_len: usize, size: u32, block: u32, phase: u8) -> bool
 
 // Why gathering is refused, or 0; len is the length of the frame's body. In range, a frame is whole exactly when more has come than that.
 pub fn refusal(numbers: &[u32], bytes: &[u8], len: u8) -> u32
-    requires { ⌜ (length (now numbers) ≡ 3) × (length (now bytes) ≡ 236) ⌝ }
+    requires { ⌜ (length (now numbers) ≡ 3) × (length (now bytes) ≡ 268) ⌝ }
     requires { ⌜ len ≡ bodyLen (headerAt (getD (now bytes) 128 0)) ⌝ }
     ensures { λ r. ⌜ r ≡ cond (holds (now (bytes .entry))) (gatherRefusal (stateIn (lent (now (numbers .entry)) (now (bytes .entry))))) 1 ⌝ }
 {
@@ -80,21 +80,21 @@ fn clear_body(bytes: &mut [u8])
 }
 
 // The memory of a stop.
-fn stop(numbers: &mut [u32; 3], bytes: &mut [u8; 236]) -> u32
+fn stop(numbers: &mut [u32; 3], bytes: &mut [u8; 268]) -> u32
     ensures { λ r. ⌜ r ≡ 22 ⌝ }
     ensures { λ _. ⌜ now (numbers .exit) ≡ set (set (now (numbers .entry)) 1 0) 2 0 ⌝ }
-    ensures { λ _. ⌜ now (bytes .exit) ≡ set (zeros 236) 130 3 ⌝ }
+    ensures { λ _. ⌜ now (bytes .exit) ≡ set (zeros 268) 130 3 ⌝ }
 {
     numbers[1] = 0;
     numbers[2] = 0;
-    *bytes = [0; 236];
+    *bytes = [0; 268];
     bytes[130] = 3;
     22
 }
 
 // A byte between frames: a header.
-pub fn open(numbers: &mut [u32; 3], bytes: &mut [u8; 236], byte: u8) -> u32
-    requires { ⌜ (length (now numbers) ≡ 3) × (length (now bytes) ≡ 236) ⌝ }
+pub fn open(numbers: &mut [u32; 3], bytes: &mut [u8; 268], byte: u8) -> u32
+    requires { ⌜ (length (now numbers) ≡ 3) × (length (now bytes) ≡ 268) ⌝ }
     requires { ⌜ holds (now bytes) ≡ true ⌝ }
     requires { ⌜ getD (now bytes) 129 0 ≡ 0 ⌝ }
     ensures { λ r. ⌜ gatherTold r (lent (now (numbers .exit)) (now (bytes .exit))) ≡ admitted (lent (now (numbers .entry)) (now (bytes .entry))) byte ⌝ }
@@ -108,8 +108,8 @@ pub fn open(numbers: &mut [u32; 3], bytes: &mut [u8; 236], byte: u8) -> u32
 }
 
 // A byte of the body that a header announced, of length len: it is kept where the frame is for the firmware.
-pub fn take(bytes: &mut [u8; 236], len: u8, byte: u8) -> u32
-    requires { ⌜ length (now bytes) ≡ 236 ⌝ }
+pub fn take(bytes: &mut [u8; 268], len: u8, byte: u8) -> u32
+    requires { ⌜ length (now bytes) ≡ 268 ⌝ }
     requires { ⌜ holds (now bytes) ≡ true ⌝ }
     requires { ⌜ len ≡ bodyLen (headerAt (getD (now bytes) 128 0)) ⌝ }
     requires { ⌜ (1 ≤ getD (now bytes) 129 0) × (getD (now bytes) 129 0 ≤ len) ⌝ }

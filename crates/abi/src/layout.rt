@@ -9,16 +9,17 @@ use loader::Incoming;
 use loader::Phase;
 use loader::Progress;
 use loader::State;
+use record::Digests;
 
 // Whether the bytes hold a state: their phase and their flags are such.
 pub fn holds(bytes: &[u8]) -> bool
-    requires { ⌜ length (now bytes) ≡ 236 ⌝ }
+    requires { ⌜ length (now bytes) ≡ 268 ⌝ }
     ensures { λ r. ⌜ r ≡ holds (now (bytes .entry)) ⌝ }
 {
     if 3 < bytes[130] {
         return false;
     }
-    bytes[131] <= 7
+    bytes[131] <= 15
 }
 
 fn body_in(bytes: &[u8]) -> [u8; 128]
@@ -65,7 +66,7 @@ fn phase_of(k: u8) -> Phase
 
 // The state that lent memory holds.
 pub fn read(numbers: &[u32], bytes: &[u8]) -> State
-    requires { ⌜ (length (now numbers) ≡ 3) × (length (now bytes) ≡ 236) ⌝ }
+    requires { ⌜ (length (now numbers) ≡ 3) × (length (now bytes) ≡ 268) ⌝ }
     ensures { λ r. ⌜ r ≡ stateIn (lent (now (numbers .entry)) (now (bytes .entry))) ⌝ }
 {
     let flags = bytes[131];
@@ -77,11 +78,15 @@ pub fn read(numbers: &[u32], bytes: &[u8]) -> State
         },
         config: Config {
             ram_len: numbers[0] as usize,
-            verify: flags % 2 == 1,
-            required: part(bytes, 132),
-            chained: flags / 2 % 2 == 1,
             measured_id: part(bytes, 164),
             udi: udi_in(bytes),
+            digests: Digests {
+                first: part(bytes, 132),
+                second: part(bytes, 236),
+                has_second: flags / 8 % 2 == 1,
+            },
+            verify: flags % 2 == 1,
+            chained: flags / 2 % 2 == 1,
         },
         progress: Progress {
             phase: phase_of(bytes[130]),
@@ -102,28 +107,28 @@ fn put(bytes: &mut [u8], at: usize, src: &[u8])
 }
 
 fn put_body(bytes: &mut [u8], src: [u8; 128])
-    requires { ⌜ length (now bytes) ≡ 236 ⌝ }
+    requires { ⌜ length (now bytes) ≡ 268 ⌝ }
     ensures { λ _. ⌜ now (bytes .exit) ≡ paste (now (bytes .entry)) 0 src (length src) ⌝ }
 {
     put(bytes, 0, &src)
 }
 
 fn put_small(bytes: &mut [u8], src: [u8; 4])
-    requires { ⌜ length (now bytes) ≡ 236 ⌝ }
+    requires { ⌜ length (now bytes) ≡ 268 ⌝ }
     ensures { λ _. ⌜ now (bytes .exit) ≡ paste (now (bytes .entry)) 128 src (length src) ⌝ }
 {
     put(bytes, 128, &src)
 }
 
 fn put_part(bytes: &mut [u8], at: usize, src: [u8; 32])
-    requires { ⌜ (length (now bytes) ≡ 236) × (at ≤ 204) ⌝ }
+    requires { ⌜ (length (now bytes) ≡ 268) × (at ≤ 236) ⌝ }
     ensures { λ _. ⌜ now (bytes .exit) ≡ paste (now (bytes .entry)) at src (length src) ⌝ }
 {
     put(bytes, at, &src)
 }
 
 fn put_udi(bytes: &mut [u8], src: [u8; 8])
-    requires { ⌜ length (now bytes) ≡ 236 ⌝ }
+    requires { ⌜ length (now bytes) ≡ 268 ⌝ }
     ensures { λ _. ⌜ now (bytes .exit) ≡ paste (now (bytes .entry)) 196 src (length src) ⌝ }
 {
     put(bytes, 196, &src)
@@ -146,10 +151,10 @@ fn as_bit(b: bool) -> u8
     if b { 1 } else { 0 }
 }
 
-fn flags_of(verify: bool, chained: bool, uss_used: bool) -> u8
-    ensures { λ r. ⌜ r ≡ flagsOf verify chained «uss_used» ⌝ }
+fn flags_of(verify: bool, chained: bool, uss_used: bool, has_second: bool) -> u8
+    ensures { λ r. ⌜ r ≡ flagsOf verify chained «uss_used» «has_second» ⌝ }
 {
-    as_bit(verify) + 2 * as_bit(chained) + 4 * as_bit(uss_used)
+    as_bit(verify) + 2 * as_bit(chained) + 4 * as_bit(uss_used) + 8 * as_bit(has_second)
 }
 
 // The four bytes after the body.
@@ -162,31 +167,38 @@ fn small_of(s: State) -> [u8; 4]
         s.incoming.header,
         s.incoming.got,
         phase_number(phase),
-        flags_of(s.config.verify, s.config.chained, s.progress.uss_used),
+        flags_of(
+            s.config.verify,
+            s.config.chained,
+            s.progress.uss_used,
+            s.config.digests.has_second,
+        ),
     ]
 }
 
 // Puts the bytes of a state in lent memory.
 fn write_bytes(s: State, bytes: &mut [u8])
-    requires { ⌜ length (now bytes) ≡ 236 ⌝ }
+    requires { ⌜ length (now bytes) ≡ 268 ⌝ }
     ensures { λ _. ⌜ now (bytes .exit) ≡ memoryOf s .bytes ⌝ }
 {
     let body = s.incoming.body;
-    let required = s.config.required;
+    let first = s.config.digests.first;
     let measured_id = s.config.measured_id;
     let udi = s.config.udi;
     let uss = s.progress.uss;
+    let second = s.config.digests.second;
     let small = small_of(s);
     put_body(bytes, body);
     put_small(bytes, small);
-    put_part(bytes, 132, required);
+    put_part(bytes, 132, first);
     put_part(bytes, 164, measured_id);
     put_udi(bytes, udi);
     put_part(bytes, 204, uss);
+    put_part(bytes, 236, second);
 }
 
 // Puts a state in lent memory.
-pub fn write(s: State, numbers: &mut [u32; 3], bytes: &mut [u8; 236])
+pub fn write(s: State, numbers: &mut [u32; 3], bytes: &mut [u8; 268])
     requires { ⌜ s .config .«ram_len» < 2 ^ 32 ⌝ }
     ensures { λ _. ⌜ lent (now (numbers .exit)) (now (bytes .exit)) ≡ memoryOf s ⌝ }
 {

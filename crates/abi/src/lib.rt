@@ -76,7 +76,7 @@ fn give(
 #[no_mangle]
 pub extern "C" fn mastfrap_begin<'a>(
     numbers: &mut [u32; 3],
-    bytes: &mut [u8; 236],
+    bytes: &mut [u8; 268],
     record: &[u8],
     udi: &[u8; 8],
     slot0: &'a [u8],
@@ -118,7 +118,7 @@ pub extern "C" fn mastfrap_begin<'a>(
 
 // gather, in place: a byte changes the few bytes that it changes.
 #[no_mangle]
-pub extern "C" fn mastfrap_gather(numbers: &mut [u32; 3], bytes: &mut [u8; 236], byte: u8) -> u32
+pub extern "C" fn mastfrap_gather(numbers: &mut [u32; 3], bytes: &mut [u8; 268], byte: u8) -> u32
     ensures { λ r. ⌜ gatherTold r (lent (now (numbers .exit)) (now (bytes .exit))) ≡ gatherCall (lent (now (numbers .entry)) (now (bytes .entry))) byte ⌝ }
 {
     let len = framing::body_len(bytes[128]);
@@ -136,7 +136,7 @@ pub extern "C" fn mastfrap_gather(numbers: &mut [u32; 3], bytes: &mut [u8; 236],
 #[no_mangle]
 pub extern "C" fn mastfrap_act(
     numbers: &mut [u32; 3],
-    bytes: &mut [u8; 236],
+    bytes: &mut [u8; 268],
     room: &mut [u8],
     ram: &mut [u8],
     uds: &mut [u32],

@@ -5,13 +5,14 @@ use diagnosis::Monitor;
 use diagnosis::Position;
 use diagnosis::Refusal;
 use head::Stop;
+use record::Digests;
 use text::Text;
 
-// All lines of what a monitor has found. The longest, of numbers with 20 digits, have under 450 bytes, and a text has room for 512.
+// All lines of what a monitor has found. The longest, of numbers with 20 digits, have under 490 bytes, and a text has room for 512.
 pub fn lines(m: Monitor) -> Text {
     let head = m.head;
     let config = head.config;
-    let required = config.required;
+    let digests = config.digests;
     let d = diagnosis::explain(m);
     let finding = d.finding;
     let position = d.position;
@@ -19,7 +20,7 @@ pub fn lines(m: Monitor) -> Text {
     let a = put_reason(text::empty(), d);
     let b = text::put_all(a, b"look at: ");
     let c = text::put(put_advice(b, finding, config.ram_len), b'\n');
-    put_digests(put_position(c, position), finding, measured, required)
+    put_digests(put_position(c, position), finding, measured, digests)
 }
 
 // Why no capture is read.
@@ -174,14 +175,23 @@ fn put_position(t: Text, p: Position) -> Text {
     )
 }
 
-// The two digests that differ at stop 25.
-fn put_digests(t: Text, f: Finding, measured: [u8; 32], required: [u8; 32]) -> Text {
+// The digests that differ at stop 25: the program's, and the one or two that are allowed.
+fn put_digests(t: Text, f: Finding, measured: [u8; 32], allowed: Digests) -> Text {
     if !is_digest_stop(f) {
         return t;
     }
-    let a = text::put_hex(text::put_all(t, b"measured "), &measured);
-    let b = text::put_hex(text::put_all(a, b"\nallowed  "), &required);
-    text::put(b, b'\n')
+    let a = put_digest(t, b"measured ", measured);
+    let first = allowed.first;
+    let b = put_digest(a, b"allowed  ", first);
+    if !allowed.has_second {
+        return b;
+    }
+    let second = allowed.second;
+    put_digest(b, b"or       ", second)
+}
+
+fn put_digest(t: Text, name: &[u8], digest: [u8; 32]) -> Text {
+    text::put(text::put_hex(text::put_all(t, name), &digest), b'\n')
 }
 
 fn is_digest_stop(f: Finding) -> bool {

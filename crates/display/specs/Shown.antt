@@ -36,7 +36,7 @@ wordsOf UnknownType = ascii "the record's type is 6 or above"
 wordsOf HeaderBit = ascii "bit 7 or bit 2 of a header is set"
 wordsOf Command = ascii "the command is not allowed now, or unknown"
 wordsOf BodyLength = ascii "the command has another body length"
-wordsOf Digest = ascii "the program has not the required digest"
+wordsOf Digest = ascii "the program's digest is not allowed"
 wordsOf ProgramSize = ascii "the size of the program in flash is 0, over the slot or over the RAM"
 
 unfoldable pub stopLine : Stop → List ℕ

@@ -49,9 +49,9 @@ pub record Display : Type 0 where
   pub stop-24 : (p q : Progress) (cdi : List ℕ) → receivedText false p (Stopped BodyLength) q cdi
       ≡ ascii "stopped 24: the command has another body length\n"
   pub stop-25 : (q : Progress) (cdi : List ℕ) → receivedText false (loadingAt 1032) (Stopped Digest) q cdi
-      ≡ ascii "1033 blocks\nstopped 25: the program has not the required digest\n"
+      ≡ ascii "1033 blocks\nstopped 25: the program's digest is not allowed\n"
   pub stop-25-from-flash : (cdi : List ℕ) → beginText (Stopped Digest) cdi
-      ≡ ascii "stopped 25: the program has not the required digest\n"
+      ≡ ascii "stopped 25: the program's digest is not allowed\n"
   pub stop-26 : (cdi : List ℕ) → beginText (Stopped ProgramSize) cdi
       ≡ ascii "stopped 26: the size of the program in flash is 0, over the slot or over the RAM\n"
   pub stop-within : (q : Progress) (cdi : List ℕ) → receivedText true (loadingAt 3) (Stopped Command) q cdi

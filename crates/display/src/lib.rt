@@ -147,7 +147,7 @@ pub fn put_words(t: Text, why: Stop) -> Text
         Stop::HeaderBit => text::put_all(t, b"bit 7 or bit 2 of a header is set"),
         Stop::Command => text::put_all(t, b"the command is not allowed now, or unknown"),
         Stop::BodyLength => text::put_all(t, b"the command has another body length"),
-        Stop::Digest => text::put_all(t, b"the program has not the required digest"),
+        Stop::Digest => text::put_all(t, b"the program's digest is not allowed"),
         Stop::ProgramSize => text::put_all(
             t,
             b"the size of the program in flash is 0, over the slot or over the RAM",

@@ -1,6 +1,6 @@
 -- The list of specs/KnownAnswers.antt: the definitions compute to what document 01 says.
 use Prim.Native.Nat.{ℕ, _+_}
-use mathlib.Core.Bool.{true}
+use mathlib.Core.Bool.{Bool, true}
 use mathlib.Core.Path.{_≡_, refl, ap}
 use mathlib.Core.List.{List, [], _∷_, _++_}
 use lib.ListN.{length, take, replicate}
@@ -10,7 +10,9 @@ use Rattle.endian.specs.Endian.{word, firstBytes}
 use Rattle.rfc7693.specs.Rfc7693.{rotr, words, iv, sigma, added, xorRotated, G, workVector, round, rounds, F, input, blockAt, blockCount, leading, compressions, compressed, initial, blake2s}
 use Rattle.protocol.specs.Commands.{loadIn}
 use Rattle.protocol.specs.Replies.{putIn, replyHeader, sent, nameReply, udiReply, loadReply, blockReply, digestReply}
+use Rattle.endian.specs.Lists.{padded, zeros}
 use Rattle.record.specs.Record.{recordAt}
+use Rattle.record.specs.declared.Digests.{Digests}
 use Rattle.cdi.specs.Cdi.{cdiString, cdiOf}
 use Rattle.cdi.proofs.Proved.{cdi}
 use Rattle.rfc7693.proofs.Proved.{examples}
@@ -19,8 +21,8 @@ use Rattle.head.specs.Answers.{Report, Result}
 use Rattle.head.specs.Start.{starting, decided}
 use Rattle.head.specs.Begin.{Slot, programIn, fits, fromFlash, beginning}
 use Rattle.head.specs.Gather.{byteStep, gatherRefusal, gathered}
-use Rattle.head.specs.Act.{loadAnswer, actRefusal, acted}
-use Rattle.head.specs.KnownAnswers.{digestOfAbc, digestOfZero, flashed, BeginTypes, Begins, KnownAnswers}
+use Rattle.head.specs.Act.{loadAnswer, finishedWith, actedBlock, actRefusal, acted}
+use Rattle.head.specs.KnownAnswers.{digestOfAbc, digestOfZero, flashed, BeginTypes, Begins, TwoDigests, KnownAnswers}
 use Rattle.head.specs.declared.Phase.the-variants as phase
 use Rattle.head.specs.declared.Config.{Config}
 
@@ -80,6 +82,34 @@ begin-types = record {
   unknown = refl;
 }
 
+-- what a config is on a record of two digests, with one byte of RAM
+abbrev either : Digests → Bool → Bool → Config
+either a verify chained = record { «ram_len» = 1; «measured_id» = zeros 32; udi = zeros 8; digests = a; verify = verify; chained = chained }
+
+-- the one block of the program is acted on, by what it is decided
+last-block : (a : Digests) (v r : Bool)
+    → acted
+    (record { incoming = record { header = 0x13; got = 129; body = padded 128 (0x05 ∷ []) }; config = either a v r; progress = ofSize phase.Loading 1 })
+    (zeros 129)
+    (0 ∷ [])
+    (zeros 8)
+    .report ≡ decided (either a v r) (ofSize phase.Loading 1) digestOfZero (0 ∷ []) (zeros 8) .report
+unfolding acted actRefusal inRange headerAt fieldsAt actedBlock finishedWith word rotr words firstBytes iv sigma added xorRotated G workVector round rounds F input blockAt blockCount leading compressions compressed initial blake2s
+last-block a v r = refl
+
+two-digests : TwoDigests
+unfolding beginning decided starting ended putIn recordAt word report-of
+two-digests = record {
+  set = refl;
+  clear = refl;
+  type-2 = (ap report-of (of-abc _), ap report-of (of-abc _), ap report-of (of-abc _), ap report-of (of-abc _));
+  type-3 = (ap report-of (of-zero _), ap report-of (of-zero _), ap report-of (of-zero _), ap report-of (of-zero _));
+  type-5 = (last-block _ _ _, last-block _ _ _, last-block _ _ _, last-block _ _ _);
+  zeros-allow-nothing = refl;
+  type-0 = ap report-of (of-abc _);
+  type-4 = (last-block _ _ _, refl);
+}
+
 begins : Begins
 unfolding beginning fromFlash decided starting ended putIn recordAt word cdiString cdiOf rotr words firstBytes iv sigma added xorRotated G workVector round rounds F input blockAt blockCount leading compressions compressed initial blake2s
 begins = record {
@@ -97,6 +127,8 @@ known-answers = record {
   flags = (refl, refl, refl, refl, refl, refl);
   types = (refl, refl, refl, refl, refl, refl, refl, refl, refl);
   masks = (refl, refl, refl);
+  second-masks = (refl, refl, refl);
+  two-digests = two-digests;
   name = refl;
   udi = udi-bytes;
   taken = refl;

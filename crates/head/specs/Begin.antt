@@ -6,7 +6,7 @@ use lib.Dec.{eqb, leb}
 use lib.ListN.{length, take}
 use Rattle.rfc7693.specs.Rfc7693.{blake2s}
 use Rattle.record.specs.Record.{Contents, recordAt}
-use Rattle.record.specs.Types.{Source, slot0, slot1, client, unknown, sourceOf, verifies, requiredOf}
+use Rattle.record.specs.Types.{Source, slot0, slot1, client, unknown, sourceOf, verifies, digestsOf}
 use Rattle.protocol.specs.Commands.{lengthOk}
 use Rattle.protocol.specs.Replies.{putIn}
 use Rattle.head.specs.State.{idle, ofSize}
@@ -43,11 +43,11 @@ abbrev pub configOf : Contents → List ℕ → List ℕ → ℕ → Config
 configOf r udi builtIn m =
     record {
       «ram_len» = m;
-      verify = verifies (r .type);
-      required = requiredOf (r .type) builtIn (r .required);
-      chained = r .resetSeed;
       «measured_id» = r .measuredId;
       udi = udi;
+      digests = digestsOf (r .type) builtIn (r .digests);
+      verify = verifies (r .type);
+      chained = r .resetSeed;
     }
 
 -- types 4 and 5: nothing of a load is there, and one is waited for

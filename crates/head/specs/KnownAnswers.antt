@@ -12,9 +12,10 @@ use Rattle.endian.specs.Lists.{each, padded, zeros}
 use Rattle.protocol.specs.Replies.{sent, nameReply, udiReply, loadReply, blockReply, digestReply}
 use Rattle.protocol.specs.declared.Load.{Load}
 use Rattle.record.specs.Record.{recordAt}
+use Rattle.record.specs.Types.{oneOf}
 use Rattle.cdi.specs.Theorems.{Strings}
-use Rattle.head.specs.State.{idle, ended}
-use Rattle.head.specs.Answers.{refused, continues, whole, stopped, started, Result}
+use Rattle.head.specs.State.{idle, ofSize, noDigests, ended}
+use Rattle.head.specs.Answers.{Report, refused, continues, whole, stopped, started, Result}
 use Rattle.head.specs.Start.{ending}
 use Rattle.head.specs.Begin.{Flash, flashOf, fits, beginning}
 use Rattle.head.specs.Gather.{withIncoming, gathered}
@@ -59,11 +60,11 @@ flashed n0 n1 builtIn = flashOf (97 ∷ 98 ∷ 99 ∷ 100 ∷ 101 ∷ []) n0 (0 
 abbrev pub begunOn : List ℕ → Flash → Result
 begunOn rec f = beginning (padded 256 rec) (zeros 8) f (9 ∷ 9 ∷ 9 ∷ 9 ∷ []) (1 ∷ 2 ∷ 3 ∷ 4 ∷ 5 ∷ 6 ∷ 7 ∷ 8 ∷ [])
 
--- a record of this type with mask 0, which requires this digest
+-- a record of this type with mask 0, which allows this digest
 abbrev pub typed : ℕ → List ℕ → List ℕ
-typed type required = type ∷ 0 ∷ 0 ∷ 0 ∷ 0 ∷ 0 ∷ 0 ∷ 0 ∷ required
+typed type digest = type ∷ 0 ∷ 0 ∷ 0 ∷ 0 ∷ 0 ∷ 0 ∷ 0 ∷ digest
 
--- each type: its slot, and the digest that it requires
+-- each type: its slot, and the digest that it allows
 pub record BeginTypes : Type 0 where
   -- not the record's
   pub flash-0 : begunOn (typed 0 digestOfAbc) (flashed 3 1 digestOfZero) .report ≡ stopped 25
@@ -120,6 +121,68 @@ replyToSize0 h =
     let o = acted (withIncoming (having []) (record { header = h; got = 129; body = padded 128 (0x03 ∷ []) })) (zeros 129) (0 ∷ []) (zeros 8) in
     take (o .reply) (o .room)
 
+-- ---- two allowed digests: change request 6
+
+-- a record of type 5 in which each byte after the mask is its own position
+abbrev pub numbered : ℕ → List ℕ
+numbered mask = (5 ∷ 0 ∷ 0 ∷ 0 ∷ mask ∷ 0 ∷ 0 ∷ 0 ∷ []) ++ each 248 (λ i. 8 + i)
+
+-- a record of this type with this first byte of its mask, which allows the first digest and, if mask bit 1 is set, the second
+abbrev pub twoDigests : ℕ → ℕ → List ℕ → List ℕ → List ℕ
+twoDigests type mask first second = type ∷ 0 ∷ 0 ∷ 0 ∷ mask ∷ 0 ∷ 0 ∷ 0 ∷ first ++ zeros 32 ++ second
+
+-- with one byte of RAM, where a load of one byte came, and now the block that carries a byte 0
+abbrev pub atLastBlock : List ℕ → State
+atLastBlock rec =
+    record {
+      incoming = record { header = 0x13; got = 129; body = padded 128 (0x05 ∷ []) };
+      config = beginning (padded 256 rec) (zeros 8) (flashed 0 0 []) (0 ∷ []) (zeros 8) .state .config;
+      progress = ofSize phase.Loading 1;
+    }
+
+-- what comes of the program: begin's answer, and that of the acting on the last block
+abbrev pub fromSlots : List ℕ → Report
+fromSlots rec = begunOn rec (flashed 3 1 []) .report
+
+abbrev pub fromClient : List ℕ → Report
+fromClient rec = acted (atLastBlock rec) (zeros 129) (0 ∷ []) (zeros 8) .report
+
+-- a program of n bytes with the digest d, where x is another: the record allows it as the second only, as the first only, or not; and mask 0xFD has
+-- all bits of the byte but bit 1
+abbrev pub EitherStarts : (List ℕ → Report) → ℕ → ℕ → List ℕ → List ℕ → Type 0
+EitherStarts comesOf type n d x =
+    (comesOf (twoDigests type 2 x d) ≡ started 0x40000000 n) × (comesOf (twoDigests type 2 d x) ≡ started 0x40000000 n)
+    × (comesOf (twoDigests type 2 x x) ≡ stopped 25) × (comesOf (twoDigests type 0xfd x d) ≡ stopped 25)
+
+pub record TwoDigests : Type 0 where
+  -- where the digests stand, and that the second is zeros where bit 1 of the mask is clear
+  pub set : recordAt (numbered 2)
+      ≡ record {
+        type = some 5;
+        resetSeed = false;
+        digests = record { first = each 32 (λ i. 8 + i); second = each 32 (λ i. 72 + i); «has_second» = true };
+        measuredId = each 32 (λ i. 40 + i);
+      }
+  pub clear : recordAt (numbered 1)
+      ≡ record {
+        type = some 5;
+        resetSeed = true;
+        digests = record { first = each 32 (λ i. 8 + i); second = zeros 32; «has_second» = false };
+        measuredId = each 32 (λ i. 40 + i);
+      }
+  -- either of the two, and only with the bit
+  pub type-2 : EitherStarts fromSlots 2 3 digestOfAbc digestOfZero
+  pub type-3 : EitherStarts fromSlots 3 1 digestOfZero digestOfAbc
+  pub type-5 : EitherStarts fromClient 5 1 digestOfZero digestOfAbc
+  -- those zeros allow nothing
+  pub zeros-allow-nothing : oneOf (recordAt (numbered 1) .digests) (zeros 32) ≡ false
+  -- type 0 has its built-in digest only
+  pub type-0 : begunOn (twoDigests 0 2 digestOfAbc digestOfAbc) (flashed 3 1 digestOfZero) .report ≡ stopped 25
+  -- type 4 allows any digest, and has all of the record in its state
+  pub type-4 : (fromClient (twoDigests 4 2 digestOfAbc digestOfAbc) ≡ started 0x40000000 1)
+      × (atLastBlock (twoDigests 4 2 digestOfAbc digestOfZero) .config .digests
+      ≡ record { first = digestOfAbc; second = digestOfZero; «has_second» = true })
+
 pub record KnownAnswers : Type 0 where
   -- flags 0, 1, 2 and 255, in byte 6: 0 means that there is no user secret, 1 that it is used, also one of zeros, and a load with another is
   -- not good
@@ -128,9 +191,13 @@ pub record KnownAnswers : Type 0 where
   -- types 0 to 6, and 0x01000004 and 0x00000104, of which the first byte is 4
   pub types : (typeOf 0 0 0 0 ≡ some 0) × (typeOf 1 0 0 0 ≡ some 1) × (typeOf 2 0 0 0 ≡ some 2) × (typeOf 3 0 0 0 ≡ some 3)
       × (typeOf 4 0 0 0 ≡ some 4) × (typeOf 5 0 0 0 ≡ some 5) × (typeOf 6 0 0 0 ≡ none) × (typeOf 4 0 0 1 ≡ none) × (typeOf 4 1 0 0 ≡ none)
-  -- masks 1, 0xFFFFFFFE and 0x00000100: bit 0 is RESET_SEED, and the other 31 are ignored
+  -- masks 1, 0xFFFFFFFE and 0x00000100: bit 0 is RESET_SEED; masks 2, 0xFFFFFFFD and 0x00000200: bit 1 says that there is a second digest; the
+  -- other 30 are ignored
   pub masks : (recordAt (masked 1 0 0 0) .resetSeed ≡ true) × (recordAt (masked 254 255 255 255) .resetSeed ≡ false)
       × (recordAt (masked 0 1 0 0) .resetSeed ≡ false)
+  pub second-masks : (recordAt (masked 2 0 0 0) .digests .«has_second» ≡ true)
+      × (recordAt (masked 253 255 255 255) .digests .«has_second» ≡ false) × (recordAt (masked 0 2 0 0) .digests .«has_second» ≡ false)
+  pub two-digests : TwoDigests
   -- each reply as bytes: the command's frame ID, endpoint 2, bit 2 zero; the one with status 1 is `not-taken`, below
   pub name : sent (nameReply 0x10)
       ≡ 0x12 ∷ 0x02 ∷ 0x74 ∷ 0x6b ∷ 0x31 ∷ 0x20 ∷ 0x6d ∷ 0x6b ∷ 0x64 ∷ 0x66 ∷ 0x01 ∷ 0 ∷ 0 ∷ 0 ∷ 0 ∷ 0 ∷ 0
@@ -161,5 +228,5 @@ pub record KnownAnswers : Type 0 where
   pub after-stop : (gathered (having []) 0x90 .report ≡ stopped 22) × (gathered (having (0x90 ∷ [])) 0x10 .report ≡ refused 2)
       × (acted (having (0x90 ∷ [])) [] [] [] .report ≡ refused 2)
   -- nothing of a session is left in the state after a stop or a start
-  pub ends : (p : Phase) (m : ℕ) → (ended p m .incoming ≡ idle) × (ended p m .config .required ≡ zeros 32) × (ended p m .config .«measured_id» ≡ zeros 32)
+  pub ends : (p : Phase) (m : ℕ) → (ended p m .incoming ≡ idle) × (ended p m .config .digests ≡ noDigests) × (ended p m .config .«measured_id» ≡ zeros 32)
       × (ended p m .config .udi ≡ zeros 8) × (ended p m .progress .uss ≡ zeros 32) × (ended p m .progress .phase ≡ p) × (ended p m .config .«ram_len» ≡ m)

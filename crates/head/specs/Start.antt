@@ -4,7 +4,8 @@ use Prim.Native.Nat.{ℕ}
 use mathlib.Core.Bool.{Bool, true, cond}
 use mathlib.Core.List.{List}
 use Rattle.endian.specs.Endian.{bytes}
-use Rattle.endian.specs.Lists.{zeros, same}
+use Rattle.endian.specs.Lists.{zeros}
+use Rattle.record.specs.Types.{oneOf}
 use Rattle.cdi.specs.Cdi.{cdiOf}
 use Rattle.head.specs.State.{ended}
 use Rattle.head.specs.Answers.{Report, stopped, started, Result}
@@ -21,9 +22,9 @@ unstarted report s ram uds = record { report = report; state = s; cdi = zeros 32
 abbrev pub ending : Report → ℕ → List ℕ → List ℕ → Result
 ending report m ram uds = unstarted report (ended phase.Stopped m) ram uds
 
--- a program with the digest d may start: where one is required, it is that one
+-- a program with the digest d may start: where it must have an allowed one, d is one of them
 abbrev pub allowed : Config → List ℕ → Bool
-allowed c d = cond (c .verify) (same d (c .required)) true
+allowed c d = cond (c .verify) (oneOf (c .digests) d) true
 
 -- a start gives the CDI, the digest d, the address and the size; each word of the UDS is then zero. Of the progress only size and user secret are
 -- read

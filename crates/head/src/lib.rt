@@ -15,6 +15,7 @@ pub use commands::decide;
 pub use commands::frame_of;
 pub use commands::loaded;
 pub use gathering::gather;
+use record::Digests;
 pub use states::allowed;
 pub use states::config_of;
 pub use states::ended;
@@ -47,10 +48,11 @@ pub struct Incoming {
 // What begin fixed.
 pub struct Config {
     pub ram_len: usize,
-    pub required: [u8; 32],
     pub measured_id: [u8; 32],
     pub udi: [u8; 8],
-    // Whether the program must have the required digest.
+    // After the other arrays, which then lie on words.
+    pub digests: Digests,
+    // Whether the program must have one of these digests.
     pub verify: bool,
     // Whether the measurement is measured_id (RESET_SEED), and not the program's digest.
     pub chained: bool,
@@ -103,7 +105,7 @@ pub enum Stop {
     Command,
     // The command has another body length.
     BodyLength,
-    // The program has not the required digest.
+    // The program's digest is not one of those that are allowed.
     Digest,
     // The size of the program in flash is 0, over the slot or over RAM.
     ProgramSize,

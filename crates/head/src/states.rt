@@ -10,6 +10,7 @@ use super::Incoming;
 use super::Phase;
 use super::Progress;
 use super::State;
+use record::Digests;
 use record::Record;
 
 // Whether a frame for the firmware is whole: its header, and how many of its bytes have come.
@@ -123,11 +124,15 @@ pub fn ended(phase: Phase, ram_len: usize) -> State
         incoming: idle(),
         config: Config {
             ram_len,
-            verify: false,
-            required: [0; 32],
-            chained: false,
             measured_id: [0; 32],
             udi: [0; 8],
+            digests: Digests {
+                first: [0; 32],
+                second: [0; 32],
+                has_second: false,
+            },
+            verify: false,
+            chained: false,
         },
         progress: of_size(phase, 0),
     }
@@ -140,8 +145,8 @@ pub fn allowed(c: Config, digest: [u8; 32]) -> bool
     if !c.verify {
         return true;
     }
-    let required = c.required;
-    endian::equal(&digest, &required)
+    let digests = c.digests;
+    record::one_of(digests, digest)
 }
 
 // Whether a program of this size is in a slot and has room in RAM: both are given by their lengths.
@@ -165,10 +170,10 @@ pub fn config_of(r: Record, udi: [u8; 8], built_in: [u8; 32], ram_len: usize) ->
     let measured_id = r.measured_id;
     Config {
         ram_len,
-        verify: record::verifies(reset_type),
-        required: record::required(r, built_in),
-        chained: r.reset_seed,
         measured_id,
         udi,
+        digests: record::digests_of(r, built_in),
+        verify: record::verifies(reset_type),
+        chained: r.reset_seed,
     }
 }

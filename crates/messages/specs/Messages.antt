@@ -91,7 +91,7 @@ loadedLine job = ascii "loaded " ++ decimalOf (job .len) ++ ascii " bytes, diges
 
 -- the last reply is the same where the head starts and where it stops with 25
 abbrev pub startedLine : List ℕ
-startedLine = ascii "a head of type 4 has started it; one of type 5 has if its record requires this digest, and shows its lamp (25) otherwise\n"
+startedLine = ascii "a head of type 4 has started it; one of type 5 has if its record allows this digest, and shows its lamp (25) otherwise\n"
 
 -- ---- the line that is rewritten meanwhile
 

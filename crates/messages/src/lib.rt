@@ -209,7 +209,7 @@ pub fn started() -> Text
 {
     text::put_all(
         text::empty(),
-        b"a head of type 4 has started it; one of type 5 has if its record requires this digest, and shows its lamp (25) otherwise\n",
+        b"a head of type 4 has started it; one of type 5 has if its record allows this digest, and shows its lamp (25) otherwise\n",
     )
 }
 

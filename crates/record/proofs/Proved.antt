@@ -1,15 +1,22 @@
--- The theorem of specs/Theorems.antt: a number leads back to its type, and a field after a list of the right length is the part there.
+-- The theorem of specs/Theorems.antt: a number leads back to its type, a field after a list of the right length is the part there, and what comes
+-- after all fields is in none of them.
 use Prim.Native.Nat.{ℕ, _+_, _≤_}
 use mathlib.Core.Path.{_≡_, refl, sym, ap, _∙_}
-use mathlib.Core.Bool.{cond}
+use mathlib.Core.Bool.{Bool, true, false, cond, _&&_, _||_}
+use mathlib.Core.Logic.{_↔_, _⊎_, inl, inr, ⊎-elim}
 use mathlib.Core.Option.{Option, none, some}
 use mathlib.Core.List.{List, _++_, append-assoc}
 use native.Mathlib.Omega.{arith}
 use lib.Dec.{eqb}
 use lib.ListN.{length, take, drop, length-append, length-drop}
 use lib.Seq.{take-at, drop-at, take-append-le, drop-append-le}
-use Rattle.record.specs.Record.{Field, typeField, maskField, requiredField, measuredIdField, fieldOf, typeNumber, recordAt}
+use Rattle.endian.specs.Lists.{same}
+use Rattle.endian.proofs.Cases.{impossible}
+use Rattle.endian.proofs.Same.{same-refl, same-eq}
+use Rattle.record.specs.Record.{Field, typeField, maskField, firstField, measuredIdField, secondField, hasSecond, dataField, fieldOf, numberIn, typeNumber, secondAt, recordAt}
+use Rattle.record.specs.Types.{oneOf}
 use Rattle.record.specs.Theorems.{Records}
+use Rattle.record.specs.declared.Digests.{Digests}
 use Rattle.record.specs.declared.ResetType.{ResetType}
 use Rattle.record.specs.declared.ResetType.the-variants.{Flash0, Flash1, Flash0Ver, Flash1Ver, Client, ClientVer, Unknown}
 
@@ -45,24 +52,79 @@ field-in f p x h =
     let l : f .size ≤ length (drop (f .from) p) = rw length-drop (omega arith) in
     ap (take (f .size)) (drop-append-le (f .from) p x (omega arith)) ∙ take-append-le (f .size) (drop (f .from) p) x l
 
--- the first 72 bytes are all that is read
-read-from : (p x : List ℕ) → length p ≡ 72 → recordAt (p ++ x) ≡ recordAt p
+-- where data begins
+data-from : (mask : ℕ) → dataField mask .from ≡ cond (hasSecond mask) 104 72
+data-from mask = go (hasSecond mask)
+  where
+    go : (has : Bool) → (cond {A = Field} has (record { from = 104; size = 152 }) (record { from = 72; size = 184 })) .from ≡ cond has 104 72
+    go true = refl
+    go false = refl
+
+from-72 : (has : Bool) → 72 ≤ cond has 104 72
+from-72 true = omega arith
+from-72 false = omega arith
+
+second-from : (has : Bool) (p x : List ℕ) → cond has 104 72 ≤ length p → secondAt has (p ++ x) ≡ secondAt has p
+second-from true p x h = field-in secondField p x (omega arith)
+second-from false p x h = refl
+
+-- what comes before the data is all that is read
+read-from : (p x : List ℕ) → cond (hasSecond (numberIn maskField p)) 104 72 ≤ length p → recordAt (p ++ x) ≡ recordAt p
 unfolding recordAt
-read-from p x e =
+read-from p x h =
+    let has = hasSecond (numberIn maskField p) in
+    let l = from-72 has in
     rw (
       field-in typeField p x (omega arith),
       field-in maskField p x (omega arith),
-      field-in requiredField p x (omega arith),
+      field-in firstField p x (omega arith),
       field-in measuredIdField p x (omega arith),
+      second-from has p x h,
     )
+
+module _ (a d m e rest : List ℕ) (ha : length a ≡ 8) (hd : length d ≡ 32) (hm : length m ≡ 32) (he : length e ≡ 32) where
+  abbrev all : List ℕ
+  all = a ++ d ++ m ++ e ++ rest
+
+  first-is : fieldOf firstField all ≡ d
+  first-is = rw (append-assoc (a ++ d ++ m) e rest, append-assoc (a ++ d) m (e ++ rest)) (after a d (m ++ (e ++ rest)) 8 32 ha hd)
+
+  measured-is : fieldOf measuredIdField all ≡ m
+  measured-is = rw (append-assoc (a ++ d ++ m) e rest) (after (a ++ d) m (e ++ rest) 40 32 (rw (length-append, ha, hd)) hm)
+
+  second-is : fieldOf secondField all ≡ e
+  second-is = after (a ++ d ++ m) e rest 72 32 (rw (length-append, length-append, ha, hd, hm)) he
+
+  mask-is : fieldOf maskField all ≡ fieldOf maskField a
+  mask-is =
+      rw (append-assoc (a ++ d ++ m) e rest, append-assoc (a ++ d) m (e ++ rest), append-assoc a d (m ++ (e ++ rest)))
+      (field-in maskField a (d ++ (m ++ (e ++ rest))) (omega arith))
+
+-- ---- which digest is allowed
+
+same-exactly : (x y : List ℕ) → (same x y ≡ true) ↔ (x ≡ y)
+same-exactly x y = (same-eq x y, λ e. ap (λ (z : List ℕ). same z y) e ∙ same-refl y)
+
+one-of : (a : Digests) (d : List ℕ) → (oneOf a d ≡ true) ↔ ((d ≡ a .first) ⊎ ((a .«has_second» ≡ true) × (d ≡ a .second)))
+one-of a d = go (same d (a .first)) (a .«has_second») (same-exactly d (a .first)) (same-exactly d (a .second))
+  where
+    go : (f h : Bool) → (f ≡ true) ↔ (d ≡ a .first) → (same d (a .second) ≡ true) ↔ (d ≡ a .second)
+        → (f || (h && same d (a .second)) ≡ true) ↔ ((d ≡ a .first) ⊎ ((h ≡ true) × (d ≡ a .second)))
+    go true h p q = (λ e. inl (p .0 refl), λ x. refl)
+    go false true p q = (λ e. inr (refl, q .0 e), λ x. ⊎-elim (λ y. let w : _≡_ {A = Bool} false true = p .1 y in impossible cc) (λ y. q .1 (y .1)) x)
+    go false false p q = (λ e. impossible cc, λ x. ⊎-elim (λ y. p .1 y) (λ y. y .0) x)
 
 pub records : Records
 unfolding recordAt
 records = record {
   types = same-type;
-  fields = λ a d m rest ha hd hm. (
-    rw (append-assoc (a ++ d) m rest) (after a d (m ++ rest) 8 32 ha hd),
-    after (a ++ d) m rest 40 32 (rw (length-append, ha, hd)) hm,
+  fields = λ a d m e rest ha hd hm he. (
+    first-is a d m e rest ha hd hm he,
+    measured-is a d m e rest ha hd hm he,
+    rw (mask-is a d m e rest ha hd hm he, second-is a d m e rest ha hd hm he),
   );
-  unread = λ p x y e. read-from p x e ∙ sym (read-from p y e);
+  one-of = one-of;
+  unread = λ p x y e.
+      let h : cond (hasSecond (numberIn maskField p)) 104 72 ≤ length p = rw (e, data-from (numberIn maskField p)) (omega arith) in
+      read-from p x h ∙ sym (read-from p y h);
 }

@@ -1,13 +1,15 @@
--- The reset record: document 01, "Reset record and lent memory". One table says where each field stands.
-use Prim.Native.Nat.{ℕ, _%_}
+-- The reset record: document 01, "Reset record and lent memory", and change request 6. One table says where each field stands.
+use Prim.Native.Nat.{ℕ, _/_, _%_}
 use mathlib.Core.Bool.{Bool, cond}
 use mathlib.Core.Option.{Option, none, some}
 use mathlib.Core.List.{List}
 use lib.Dec.{eqb, ltb}
 use lib.ListN.{take, drop}
 use Rattle.endian.specs.Endian.{word}
+use Rattle.endian.specs.Lists.{zeros}
 use Rattle.record.specs.declared.ResetType.{ResetType}
 use Rattle.record.specs.declared.ResetType.the-variants.{Flash0, Flash1, Flash0Ver, Flash1Ver, Client, ClientVer, Unknown}
+use Rattle.record.specs.declared.Digests.{Digests}
 use Rattle.record.specs.declared.Record.{Record}
 
 -- a field of the record: its first byte, and how many it has
@@ -21,15 +23,27 @@ typeField = record { from = 0; size = 4 }
 abbrev pub maskField : Field
 maskField = record { from = 4; size = 4 }
 
-abbrev pub requiredField : Field
-requiredField = record { from = 8; size = 32 }
+-- the first allowed digest, which document 01 calls required
+abbrev pub firstField : Field
+firstField = record { from = 8; size = 32 }
 
 abbrev pub measuredIdField : Field
 measuredIdField = record { from = 40; size = 32 }
 
--- data for the next program, which the loader does not read
-abbrev pub dataField : Field
-dataField = record { from = 72; size = 184 }
+-- the second allowed digest, if mask bit 1 says that there is one
+abbrev pub secondField : Field
+secondField = record { from = 72; size = 32 }
+
+-- the bits of a mask; bits 2 to 31 are ignored
+abbrev pub resetSeed : ℕ → Bool
+resetSeed mask = eqb (mask % 2) 1
+
+abbrev pub hasSecond : ℕ → Bool
+hasSecond mask = eqb (mask / 2 % 2) 1
+
+-- data for the next program, which the loader does not read: all that comes after the last digest
+abbrev pub dataField : ℕ → Field
+dataField mask = cond (hasSecond mask) (record { from = 104; size = 152 }) (record { from = 72; size = 184 })
 
 -- the bytes of a field
 abbrev pub fieldOf : Field → List ℕ → List ℕ
@@ -49,11 +63,12 @@ typeNumber Client = some 4
 typeNumber ClientVer = some 5
 typeNumber Unknown = none
 
--- what the loader reads of a record: the number of its type, or none, mask bit 0 and the two digests
+-- what the loader reads of a record: the number of its type, or none, mask bit 0, the allowed digests (first, second and has_second, mask bit 1)
+-- and measured_id
 pub record Contents : Type 0 where
   pub type : Option ℕ
   pub resetSeed : Bool
-  pub required : List ℕ
+  pub digests : Digests
   pub measuredId : List ℕ
 
 abbrev pub recordOf : Record → Contents
@@ -61,7 +76,7 @@ recordOf r =
     record {
       type = typeNumber (r .«reset_type»);
       resetSeed = r .«reset_seed»;
-      required = r .required;
+      digests = r .digests;
       measuredId = r .«measured_id»;
     }
 
@@ -69,15 +84,18 @@ recordOf r =
 abbrev pub knownType : ℕ → Option ℕ
 knownType n = cond (ltb n 6) (some n) none
 
--- bit 0 of a mask; the other 31 are ignored
-abbrev pub resetSeed : ℕ → Bool
-resetSeed mask = eqb (mask % 2) 1
+-- where there is no second digest, zeros stand for it: data is not read
+abbrev pub secondAt : Bool → List ℕ → List ℕ
+secondAt has bytes = cond has (fieldOf secondField bytes) (zeros 32)
+
+abbrev pub digestsAt : Bool → List ℕ → Digests
+digestsAt has bytes = record { first = fieldOf firstField bytes; second = secondAt has bytes; «has_second» = has }
 
 unfoldable pub recordAt : List ℕ → Contents
 recordAt bytes =
     record {
       type = knownType (numberIn typeField bytes);
       resetSeed = resetSeed (numberIn maskField bytes);
-      required = fieldOf requiredField bytes;
+      digests = digestsAt (hasSecond (numberIn maskField bytes)) bytes;
       measuredId = fieldOf measuredIdField bytes;
     }

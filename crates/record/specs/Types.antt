@@ -1,9 +1,11 @@
--- What each type of a reset asks for: document 01, "Reset record and lent memory", and change request 3. A type is its number, or none.
+-- What each type of a reset asks for: document 01, "Reset record and lent memory", and change requests 3 and 6. A type is its number, or none.
 use Prim.Native.Nat.{ℕ}
-use mathlib.Core.Bool.{Bool, false, cond, _||_}
+use mathlib.Core.Bool.{Bool, false, cond, _&&_, _||_}
 use mathlib.Core.Option.{Option, none, some}
 use mathlib.Core.List.{List}
 use lib.Dec.{eqb}
+use Rattle.endian.specs.Lists.{zeros, same}
+use Rattle.record.specs.declared.Digests.{Digests}
 use Rattle.record.specs.declared.Place.{Place}
 use Rattle.record.specs.declared.Place.the-variants as place
 
@@ -33,10 +35,17 @@ sourceOf t =
     (cond (isType t 1 || isType t 3) slot1
     (cond (isType t 4 || isType t 5) client unknown))
 
--- the program of types 0, 2, 3 and 5 must have a digest
+-- the program of types 0, 2, 3 and 5 must have an allowed digest
 abbrev pub verifies : Option ℕ → Bool
 verifies t = isType t 0 || isType t 2 || isType t 3 || isType t 5
 
--- that of type 0 is built in, that of the others is the record's
-abbrev pub requiredOf : Option ℕ → List ℕ → List ℕ → List ℕ
-requiredOf t builtIn recorded = cond (isType t 0) builtIn recorded
+-- that of type 0 is built in, and is the only one; those of the others are the record's
+abbrev pub only : List ℕ → Digests
+only d = record { first = d; second = zeros 32; «has_second» = false }
+
+abbrev pub digestsOf : Option ℕ → List ℕ → Digests → Digests
+digestsOf t builtIn recorded = cond (isType t 0) (only builtIn) recorded
+
+-- d is one of the allowed digests
+abbrev pub oneOf : Digests → List ℕ → Bool
+oneOf a d = same d (a .first) || (a .«has_second» && same d (a .second))

@@ -4,14 +4,14 @@ ghost use mathlib.Core.Path.{_≡_};
 ghost use Prim.Native.Nat.{_+_, _≤_};
 ghost use lib.ListN.{length, take, drop};
 ghost use Rattle.endian.specs.Lists.{padded};
-ghost use Rattle.record.specs.Record.{typeNumber, knownType, recordOf, recordAt};
-ghost use Rattle.record.specs.Types.{sourceAt, sourceOf, verifies, requiredOf};
+ghost use Rattle.record.specs.Record.{typeNumber, knownType, secondAt, digestsAt, recordOf, recordAt};
+ghost use Rattle.record.specs.Types.{sourceAt, sourceOf, verifies, digestsOf, oneOf};
 
 // Which program a reset asks for.
 pub enum ResetType {
     Flash0,
     Flash1,
-    // _VER: the program must have the required digest.
+    // _VER: the program must have an allowed digest.
     Flash0Ver,
     Flash1Ver,
     Client,
@@ -30,12 +30,22 @@ pub enum Place {
     Unknown,
 }
 
+// The allowed digests: a program that must have a digest has one of them.
+pub struct Digests {
+    // Document 01's required digest.
+    pub first: [u8; 32],
+    // Zeros where there is none.
+    pub second: [u8; 32],
+    // Mask bit 1: there is a second.
+    pub has_second: bool,
+}
+
 // What the loader reads of a record.
 pub struct Record {
     pub reset_type: ResetType,
     // Mask bit 0: the CDI is chained to measured_id.
     pub reset_seed: bool,
-    pub required: [u8; 32],
+    pub digests: Digests,
     pub measured_id: [u8; 32],
 }
 
@@ -73,6 +83,28 @@ pub fn front(record: &[u8]) -> [u8; 256]
     bytes
 }
 
+// The second allowed digest. Where there is none its bytes are data, and data is not read.
+fn second_in(bytes: &[u8], has_second: bool) -> [u8; 32]
+    requires { ⌜ length (now bytes) ≡ 256 ⌝ }
+    ensures { λ r. ⌜ r ≡ secondAt «has_second» (now (bytes .entry)) ⌝ }
+{
+    if !has_second {
+        return [0; 32];
+    }
+    part(bytes, 72)
+}
+
+fn digests_in(bytes: &[u8], has_second: bool) -> Digests
+    requires { ⌜ length (now bytes) ≡ 256 ⌝ }
+    ensures { λ r. ⌜ r ≡ digestsAt «has_second» (now (bytes .entry)) ⌝ }
+{
+    Digests {
+        first: part(bytes, 8),
+        second: second_in(bytes, has_second),
+        has_second,
+    }
+}
+
 // Reads a record.
 pub fn read(bytes: [u8; 256]) -> Record
     ensures { λ r. ⌜ recordOf r ≡ recordAt bytes ⌝ }
@@ -82,7 +114,7 @@ pub fn read(bytes: [u8; 256]) -> Record
     Record {
         reset_type,
         reset_seed: mask % 2 == 1,
-        required: part(&bytes, 8),
+        digests: digests_in(&bytes, mask / 2 % 2 == 1),
         measured_id: part(&bytes, 40),
     }
 }
@@ -102,7 +134,7 @@ pub fn source(t: ResetType) -> Place
     }
 }
 
-// Whether the program of a type must have a digest.
+// Whether the program of a type must have an allowed digest.
 pub fn verifies(t: ResetType) -> bool
     ensures { λ r. ⌜ r ≡ verifies (typeNumber t) ⌝ }
 {
@@ -117,14 +149,18 @@ pub fn verifies(t: ResetType) -> bool
     }
 }
 
-// The digest that the program must have then: type 0's is built in, that of the others is the record's.
-pub fn required(r: Record, built_in: [u8; 32]) -> [u8; 32]
-    ensures { λ d. ⌜ d ≡ requiredOf (typeNumber (r .«reset_type»)) «built_in» (r .required) ⌝ }
+// The digests that are allowed then: type 0's only one is built in, those of the others are the record's.
+pub fn digests_of(r: Record, built_in: [u8; 32]) -> Digests
+    ensures { λ a. ⌜ a ≡ digestsOf (typeNumber (r .«reset_type»)) «built_in» (r .digests) ⌝ }
 {
     let t = r.reset_type;
-    let recorded = r.required;
+    let recorded = r.digests;
     match t {
-        ResetType::Flash0 => built_in,
+        ResetType::Flash0 => Digests {
+            first: built_in,
+            second: [0; 32],
+            has_second: false,
+        },
         ResetType::Flash1 => recorded,
         ResetType::Flash0Ver => recorded,
         ResetType::Flash1Ver => recorded,
@@ -132,4 +168,15 @@ pub fn required(r: Record, built_in: [u8; 32]) -> [u8; 32]
         ResetType::ClientVer => recorded,
         ResetType::Unknown => recorded,
     }
+}
+
+// Whether a digest is one of those that are allowed.
+pub fn one_of(a: Digests, digest: [u8; 32]) -> bool
+    ensures { λ r. ⌜ r ≡ oneOf a digest ⌝ }
+{
+    let first = a.first;
+    let second = a.second;
+    let is_first = endian::equal(&digest, &first);
+    let is_second = endian::equal(&digest, &second);
+    is_first | (a.has_second & is_second)
 }

@@ -1,7 +1,7 @@
 -- What a reset fixes: what the head goes by, which digest may start, and how the bytes of a start read.
 use Prim.Native.Nat.{ℕ, _<_}
 use mathlib.Core.Path.{_≡_, refl, sym, ap, _∙_}
-use mathlib.Core.Logic.{_↔_, _⊎_, inl, inr, ⊎-elim}
+use mathlib.Core.Logic.{_↔_, _⊎_, inl, inr, ⊎-elim, ⊎-map}
 use mathlib.Core.Bool.{Bool, true, false, cond, _||_}
 use mathlib.Core.Option.{none, some}
 use mathlib.Core.List.{List}
@@ -9,14 +9,15 @@ use native.Mathlib.Omega.{arith}
 use lib.Dec.{eqb, ltb}
 use lib.ListN.{length}
 use borrow.Author.Tests.{ltb-false, eqb-true, eqb-false, ne-eqb}
-use Rattle.endian.specs.Lists.{same}
-use Rattle.endian.proofs.Same.{same-refl, same-eq}
-use Rattle.record.specs.Record.{requiredField, fieldOf, knownType, recordAt}
-use Rattle.record.specs.Types.{isType}
+use Rattle.endian.proofs.Cases.{impossible}
+use Rattle.record.specs.Record.{knownType, digestsAt, recordAt}
+use Rattle.record.specs.Types.{isType, only, oneOf}
+use Rattle.record.proofs.Proved.{records}
 use Rattle.head.specs.Start.{allowed}
 use Rattle.head.specs.Begin.{configOf}
-use Rattle.session.specs.Reading.{typeOf, Allowed, Starting}
+use Rattle.session.specs.Reading.{typeOf, secondAllowed, Recorded, Allowed, Starting}
 use Rattle.session.specs.Session.{Reset}
+use Rattle.record.specs.declared.Digests.{Digests}
 use Rattle.head.specs.declared.Config.{Config}
 
 -- the bytes of a start
@@ -39,33 +40,39 @@ is-type t n h = go (ltb t 6) refl
     go true e = refl
     go false e = sym (ne-eqb t n (λ q. let l = ltb-false t 6 e in omega arith))
 
--- the head's test of a digest: types that require the built-in one, the record's or none
+-- the head's test of a digest: types that allow the built-in one, the record's or any
 module _ (R : Reset) (d : List ℕ) where
   abbrev t : ℕ
   t = typeOf (R .rec)
 
-  abbrev Recorded : Type 0
-  Recorded = (t ≡ 2) ⊎ ((t ≡ 3) ⊎ (t ≡ 5))
+  abbrev digests : Digests
+  digests = digestsAt (secondAllowed (R .rec)) (R .rec)
 
-  same-exactly : (x : List ℕ) → (same d x ≡ true) ↔ (d ≡ x)
-  same-exactly x = (same-eq d x, λ e. ap (λ (y : List ℕ). same y x) e ∙ same-refl x)
+  abbrev ByRecord : Type 0
+  ByRecord = (t ≡ 2) ⊎ ((t ≡ 3) ⊎ (t ≡ 5))
 
-  by-built-in : t ≡ 0 → (same d (R .flash .builtIn) ≡ true) ↔ AllowedOn R d
+  one-recorded : (oneOf digests d ≡ true) ↔ Recorded (R .rec) d
+  one-recorded =
+      let s = records .one-of digests d in (
+        λ q. ⊎-map (λ x. x) (λ x. (x .0, rw (x .0) at (x .1))) (s .0 q),
+        λ r. s .1 (⊎-map (λ x. x) (λ x. (x .0, rw (x .0) (x .1))) r),
+      )
+
+  by-built-in : t ≡ 0 → (oneOf (only (R .flash .builtIn)) d ≡ true) ↔ AllowedOn R d
   by-built-in e =
-      let s = same-exactly (R .flash .builtIn) in
-      let n : Recorded → ⊥ = λ z. ⊎-elim (λ x. omega arith) (λ y. ⊎-elim (λ x. omega arith) (λ x. omega arith) y) z in (
-        λ q. record { built-in = λ z. s .0 q; recorded = λ z. absurd (n z) },
-        λ a. s .1 (a .built-in (omega arith)),
+      let s = records .one-of (only (R .flash .builtIn)) d in
+      let n : ByRecord → ⊥ = λ z. ⊎-elim (λ x. omega arith) (λ y. ⊎-elim (λ x. omega arith) (λ x. omega arith) y) z in (
+        λ q. record { built-in = λ z. ⊎-elim (λ x. x) (λ x. let w : _≡_ {A = Bool} false true = x .0 in impossible cc) (s .0 q); recorded = λ z. absurd (n z) },
+        λ a. s .1 (inl (a .built-in (omega arith))),
       )
 
-  by-record : (t ≡ 0 → ⊥) → Recorded → (same d (fieldOf requiredField (R .rec)) ≡ true) ↔ AllowedOn R d
-  by-record n r =
-      let s = same-exactly (fieldOf requiredField (R .rec)) in (
-        λ q. record { built-in = λ z. absurd (omega (arith, n)); recorded = λ z. s .0 q },
-        λ a. s .1 (a .recorded r),
-      )
+  by-record : (t ≡ 0 → ⊥) → ByRecord → (oneOf digests d ≡ true) ↔ AllowedOn R d
+  by-record n r = (
+    λ q. record { built-in = λ z. absurd (omega (arith, n)); recorded = λ z. one-recorded .0 q },
+    λ a. one-recorded .1 (a .recorded r),
+  )
 
-  by-none : (t ≡ 0 → ⊥) → (Recorded → ⊥) → (_≡_ {A = Bool} true true) ↔ AllowedOn R d
+  by-none : (t ≡ 0 → ⊥) → (ByRecord → ⊥) → (_≡_ {A = Bool} true true) ↔ AllowedOn R d
   by-none n m = (λ q. record { built-in = λ z. absurd (omega (arith, n)); recorded = λ z. absurd (m z) }, λ a. refl)
 
   pub allows : (allowed (config R) d ≡ true) ↔ AllowedOn R d
@@ -75,7 +82,7 @@ module _ (R : Reset) (d : List ℕ) where
       (go (eqb t 0) (eqb t 2) (eqb t 3) (eqb t 5) refl refl refl refl)
     where
       go : (z x y v : Bool) → eqb t 0 ≡ z → eqb t 2 ≡ x → eqb t 3 ≡ y → eqb t 5 ≡ v
-          → (cond (z || x || y || v) (same d (cond z (R .flash .builtIn) (fieldOf requiredField (R .rec)))) true ≡ true) ↔ AllowedOn R d
+          → (cond (z || x || y || v) (oneOf (cond z (only (R .flash .builtIn)) digests) d) true ≡ true) ↔ AllowedOn R d
       go true x y v ez ex ey ev = by-built-in (eqb-true t 0 ez)
       go false true y v ez ex ey ev = by-record (eqb-false t 0 ez) (inl (eqb-true t 2 ex))
       go false false true v ez ex ey ev = by-record (eqb-false t 0 ez) (inr (inl (eqb-true t 3 ey)))

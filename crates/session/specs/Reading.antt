@@ -11,7 +11,7 @@ use Rattle.endian.specs.Lists.{All}
 use Rattle.framing.specs.Header.{good, headerAt, inField, endpoint}
 use Rattle.rfc7693.specs.Rfc7693.{blake2s}
 use Rattle.protocol.specs.Commands.{firmware, commandIn, loadIn, goodLoad, carriedBy, blocksFor}
-use Rattle.record.specs.Record.{typeField, maskField, requiredField, measuredIdField, fieldOf, numberIn, resetSeed}
+use Rattle.record.specs.Record.{typeField, maskField, firstField, measuredIdField, secondField, resetSeed, hasSecond, fieldOf, numberIn}
 
 -- a good frame: a header with bits 7 and 2 zero, then a body of the length that it gives; it is whole when all of that body is there
 pub record Good (f : List ℕ) : Type 0 where
@@ -76,14 +76,22 @@ digestOf load blocks = blake2s [] (programOf load blocks) 32
 abbrev pub typeOf : List ℕ → ℕ
 typeOf rec = numberIn typeField rec
 
--- a program of this digest may start: type 0 requires the built-in digest, types 2, 3 and 5 record bytes 8 to 39, and types 1 and 4 none
-pub record Allowed (rec builtIn d : List ℕ) : Type 0 where
-  pub built-in : typeOf rec ≡ 0 → d ≡ builtIn
-  pub recorded : (typeOf rec ≡ 2) ⊎ ((typeOf rec ≡ 3) ⊎ (typeOf rec ≡ 5)) → d ≡ fieldOf requiredField rec
-
 -- mask bit 0: chained if it is 1, direct if it is 0
 abbrev pub chained : List ℕ → Bool
 chained rec = resetSeed (numberIn maskField rec)
+
+-- mask bit 1: whether the record has a second allowed digest
+abbrev pub secondAllowed : List ℕ → Bool
+secondAllowed rec = hasSecond (numberIn maskField rec)
+
+-- the digest is one of the record's: bytes 8 to 39 or, with mask bit 1, bytes 72 to 103
+abbrev pub Recorded : List ℕ → List ℕ → Type 0
+Recorded rec d = (d ≡ fieldOf firstField rec) ⊎ ((secondAllowed rec ≡ true) × (d ≡ fieldOf secondField rec))
+
+-- a program of this digest may start: type 0 allows the built-in digest only, types 2, 3 and 5 those of the record, and types 1 and 4 any
+pub record Allowed (rec builtIn d : List ℕ) : Type 0 where
+  pub built-in : typeOf rec ≡ 0 → d ≡ builtIn
+  pub recorded : (typeOf rec ≡ 2) ⊎ ((typeOf rec ≡ 3) ⊎ (typeOf rec ≡ 5)) → Recorded rec d
 
 abbrev pub measuredId : List ℕ → List ℕ
 measuredId rec = fieldOf measuredIdField rec
@@ -114,5 +122,5 @@ pub record Starting (rec builtIn : List ℕ) (m : ℕ) (received : List ℕ) : T
   -- those with endpoint 2 load, and all blocks have come
   pub loading : Loads m (own (before ++ last ∷ []))
   pub enough : length (loading .blocks) ≡ needed loading
-  -- where a digest is required, the first n bytes carried have it
+  -- where there are allowed digests, the first n bytes carried have one of them
   pub allowed : Allowed rec builtIn (digestOf (loading .load) (loading .blocks))

@@ -16,7 +16,7 @@ sized y = y .before .before .before .before .before
 three : (y : tie.After-refusal) → length (start y .args .numbers .now) ≡ 3
 three y = search needs
 
-full : (y : tie.After-refusal) → length (start y .args .bytes .now) ≡ 236
+full : (y : tie.After-refusal) → length (start y .args .bytes .now) ≡ 268
 full y = search needs
 
 returns : tie.Need-returns

@@ -1,4 +1,4 @@
--- The calls give the four fields; the type and the mask are numbers of four bytes (`word-at`).
+-- The calls give the fields; the type and the mask are numbers of four bytes (`word-at`).
 use Rattle.record.specs.Record.{recordAt}
 use Rattle.record.proofs.Fields.{word-at}
 use borrow.Author.Needs.{needs}
@@ -13,8 +13,8 @@ returns c =
     let t = m .before in
     let l = t .before .before .args .t1 in
     rw (
-      c .part2 .ensures,
-      p .part .ensures,
+      c .part .ensures,
+      p .digests-in .ensures,
       m .word2 .ensures,
       t .type-of .ensures,
       t .before .word .ensures,

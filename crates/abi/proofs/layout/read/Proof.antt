@@ -19,12 +19,13 @@ returns : tie.Need-returns
 unfolding stateIn
 returns c =
     let p = c .before .before .before in
-    let u = p .before .before in
+    let d = p .before .before in
+    let e = d .before in
+    let u = e .before in
     let m = u .before in
-    let r = m .before in
-    let b = r .before .before in
+    let b = m .before .before in
     let l = low (getD (b .before .before .before .before .before .before .args .bytes .now) 131 0) in
-    rw (l, c .part3 .ensures, p .phase-of .ensures, u .udi-in .ensures, m .part2 .ensures, r .part .ensures, b .body-in .ensures)
+    rw (l, c .part4 .ensures, p .phase-of .ensures, d .part3 .ensures, e .part2 .ensures, u .udi-in .ensures, m .part .ensures, b .body-in .ensures)
 
 pub read-spec : {M : Type 1} → statement M
 read-spec =
@@ -36,6 +37,7 @@ read-spec =
     (λ c κs. search needs)
     (λ c. search needs)
     cast-t13
+    (λ c κs. search needs)
     (λ c κs. search needs)
     (λ c κs. search needs)
     (λ c κs. search needs)

@@ -22,7 +22,8 @@ turn c = c .before .before .before .before .before
 add-i : tie.Need-add-i Inv-loop μ-loop
 add-i c =
     let t = turn c in
-    omega (arith, t .loop-test .taken, t .before .loop .inv)
+    let start = t .before .before .before .before .before .before .before in
+    omega (arith, t .loop-test .taken, t .before .loop .inv, start .good .1 .0)
 
 loop-less : tie.Need-loop-less Inv-loop μ-loop
 loop-less c = let t = turn c in omega (arith, t .loop-test .taken)
