@@ -501,7 +501,7 @@ def random_head(rng):
     size = rng.choice([0, 1, 100, 127, 128, 254, 255, 299, 300, 301])
     ram = rng.choice([RAM] * 20 + [0, 1, 299, RAM_MOST, RAM_MOST + 1])
     f = random_frame(rng, size)
-    head = waiting(ram=ram, verify=rng.random() < 0.3, has_second=rng.random() < 0.5, chained=rng.random() < 0.5, frame=f, udi=rng.randbytes(8))
+    head = waiting(ram=ram, verify=rng.random() < 0.5, has_second=rng.random() < 0.5, chained=rng.random() < 0.5, frame=f, udi=rng.randbytes(8))
     head.phase = rng.choice(["waiting"] * 4 + ["loading"] * 6 + ["started", "stopped"])
     if head.phase == "loading" or rng.random() < 0.1:
         head.size, head.block = rng.choice([1, 127, 128, 255, 300, size]), rng.choice([0, 0, 1, 2, 3, 2**32 - 1])
@@ -532,13 +532,13 @@ def random_calls(calls):
         hears = rng.random() < 0.6
         if rng.random() < 0.5:
             digest = measured(head, bytes(head.frame.body[:-1]) + bytes([byte]) if hears else head.frame.body)
-            head.first, head.second = rng.choice([(digest, head.second), (head.first, digest)])
+            setattr(head, rng.choice(["first", "second"]) if head.has_second else "first", digest)
         s = Session(f"random call {k}", calls, head, [rng.randrange(2**32) for _ in range(8)])
         if hears:
             s.hear(byte, **loans)
         else:
             s.act(**loans)
-        calls.seen["random calls", f"verified {s.answer.kind}, {head.has_second + 1} digests"] += head.verify
+        calls.seen["random calls", f"verified starts, {head.has_second + 1} allowed"] += head.verify and s.answer.kind == "S"
 
 
 # ---- memory of any bytes
@@ -641,7 +641,7 @@ KINDS = {
     "gather": GATHERS,
     "act": ACTS,
     "random begins": [f"{answer} of type {kind}" for kind in range(4) for answer in "SF"],
-    "random calls": ["verified S, 1 digests", "verified S, 2 digests"],
+    "random calls": ["verified starts, 1 allowed", "verified starts, 2 allowed"],
     "memory": ["no state", "out of range"],
     "gather on any memory": GATHERS,
     "act on any memory": ACTS,

@@ -430,7 +430,7 @@ def flash_cases():
     for seed, (size, kind, chained, both) in enumerate(kinds):
         what = f"{size} bytes from flash, type {kind}, {'chained' if chained else 'direct'}, {'two programs' if both else 'one program'}"
         yield what, lambda folder, given=(seed, size, kind, chained, both): flash(folder, *given)
-    for case in (flash_other_digest, flash_size, flash_in_all_ram, flash_on_terminal, client_with_flash):
+    for case in (flash_other_digest, flash_changeover, flash_size, flash_in_all_ram, flash_on_terminal, client_with_flash):
         yield case.__name__, case
 
 
@@ -439,7 +439,7 @@ def cases():
     for seed, (size, kind, chained, secret) in enumerate(kinds):
         what = f"{size} bytes, type {kind}, {'chained' if chained else 'direct'}, {'a' if secret else 'no'} user secret"
         yield what, lambda folder, given=(seed, size, kind, chained, secret): load(folder, *given)
-    for case in (no_room, opened_often, read_late, never_read, other_digest, stops_while_loading, terminal_start, terminal_stop):
+    for case in (no_room, opened_often, read_late, never_read, other_digest, changeover, stops_while_loading, terminal_start, terminal_stop):
         yield case.__name__, case
     yield from flash_cases()
     for case in (readme, readme_flash, usage, elsewhere, dies):
