@@ -16,4 +16,4 @@ use Rattle.reasons.specs.Examples.{Told, examples}
 pub comes-up : All Told examples
 unfolding diagnosis explained heard heardByte begun closed opened recordAt word gathered gatherRefusal byteStep inRange headerAt fieldsAt ended loadIn loadHeard blockHeard rotr words firstBytes iv sigma added xorRotated G workVector round rounds F blockAt leading compressed initial hashNumber stream.beginContext stream.beginNumber stream.begun stream.updateContext stream.updateNumber stream.inRange stream.extended stream.waiting stream.total stream.done stream.earlier stream.finishOutput stream.finishNumber stream.closed
 comes-up =
-    (refl, (refl, (refl, (refl, (refl, (refl, (refl, (refl, (refl, (refl, (refl, (refl, (refl, (refl, (refl, (refl, (refl, (refl, tt))))))))))))))))))
+    (refl, (refl, (refl, (refl, (refl, (refl, (refl, (refl, (refl, (refl, (refl, (refl, (refl, (refl, (refl, (refl, (refl, (refl, (refl, (refl, tt))))))))))))))))))))

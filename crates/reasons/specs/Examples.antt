@@ -16,9 +16,12 @@ pub record Example : Type 0 where
 abbrev pub Told : Example → Type 0
 Told e = diagnosis (e .rec) (e .ram) (e .bytes) ≡ e .tells
 
--- a record of type t that requires the digest d
+-- a record of type t that allows the digest d, and one of type 5 with this mask, which has the digests d and e
 abbrev recordOf : ℕ → List ℕ → List ℕ
 recordOf t d = t ∷ 0 ∷ 0 ∷ 0 ∷ zeros 4 ++ (d ++ zeros 216)
+
+abbrev recordOfTwo : ℕ → List ℕ → List ℕ → List ℕ
+recordOfTwo mask d e = 5 ∷ 0 ∷ 0 ∷ 0 ∷ mask ∷ zeros 3 ++ (d ++ (zeros 32 ++ (e ++ zeros 152)))
 
 -- BLAKE2s-256 of the one byte 0x42
 abbrev digest42 : List ℕ
@@ -40,7 +43,7 @@ weighed r byte frame offset d = record { reason = r; byte = byte; frame = frame;
 abbrev told : Reason → ℕ → ℕ → ℕ → Explained
 told r byte frame offset = weighed r byte frame offset (zeros 32)
 
--- on a record of type 4, with 1,024 bytes of RAM, and on one of type 5 that requires the digest d
+-- on a record of type 4, with 1,024 bytes of RAM, and on one of type 5 that allows the digest d
 abbrev heard : List ℕ → Explained → Example
 heard bytes x = record { rec = recordOf 4 (zeros 32); ram = 1024; bytes = bytes; tells = x }
 
@@ -73,4 +76,7 @@ examples =
     ∷ heard (load 254 ++ block 0x42) (told (missing 1) 258 2 128)
     -- what comes after a start is not read
     ∷ heardFor digest42 (load 1 ++ (block 0x42 ++ (0x90 ∷ []))) (weighed started 258 2 128 digest42)
+    -- the second digest, with mask bit 1 and without
+    ∷ record { rec = recordOfTwo 2 (zeros 32) digest42; ram = 1024; bytes = load 1 ++ block 0x42; tells = weighed started 258 2 128 digest42 }
+    ∷ record { rec = recordOfTwo 1 (zeros 32) digest42; ram = 1024; bytes = load 1 ++ block 0x42; tells = weighed (stopped 25 258) 258 2 128 digest42 }
     ∷ []
