@@ -14,7 +14,7 @@ struct board {
     const uint8_t *slot[2];       /* the flash */
     uint32_t slot_len[2];         /* 0 where there is none */
     uint32_t program_size[2];     /* of the program at the front of each slot; 0 where there is none */
-    const uint8_t *built_in;      /* the digest that type 0 requires, 32 bytes */
+    const uint8_t *built_in;      /* the digest that type 0 allows, 32 bytes */
     uint8_t *ram;                 /* where programs go to and run: what the processor sees at 0x40000000, where they start */
     uint32_t ram_len;             /* 1 to 131,072 */
     uint32_t *uds;                /* the UDS, eight words of four bytes each, lowest first; a start sets them to zero */

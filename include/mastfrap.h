@@ -168,7 +168,7 @@ enum {
  *               164 to 195    measured_id
  *               196 to 203    the UDI
  *               204 to 235    the user secret (USS)
- *               236 to 267    the second allowed digest
+ *               236 to 267    the second allowed digest; from begin on zeros where there is none
  *
  * Memory with another number in byte 130 or 131 holds no state. docs/STATES.md has the ranges. Memory that
  * a begin has written, which was not refused, and that gather and act alone have changed since, is never
@@ -270,8 +270,8 @@ enum {
  *               1    the number of its frame, from 1, frames for other endpoints counted; 0 if there is none
  *               2    its place in that frame: 0 is the header
  *               3    how many blocks are missing, at 68; 0 otherwise
- *     digest         the program's digest, at 65 and at 25; zeros otherwise. At 25 bytes 8 to 39 of the
- *                    record are the one that is allowed
+ *     digest         the program's digest, at 65 and at 25; zeros otherwise. At 25 it is neither bytes 8 to
+ *                    39 of the record nor, with mask bit 1, bytes 72 to 103
  *
  * If it is refused, counts and digest are not changed. Nothing else is ever written, and no RAM is needed.
  *

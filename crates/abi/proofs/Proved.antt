@@ -288,7 +288,7 @@ lists s z (act l ∷ cs) =
 example : Example
 unfolding beginCall gatherCall actCall stateIn memoryOf beginning recordAt gathered gatherRefusal inRange byteStep headerAt fieldsAt headerByte ended acted actRefusal
     word nameReply replyHeader putIn
-example = record { begins = λ m old. refl; header = refl; query = refl; reply = λ old. refl; stop = refl }
+example = record { begins = λ m old. refl; flags = (refl, refl, refl, refl); header = refl; query = refl; reply = λ old. refl; stop = refl }
 
 pub abi-theorems : AbiTheorems
 abi-theorems =

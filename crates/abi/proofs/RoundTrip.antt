@@ -11,7 +11,7 @@ use borrow.Author.Tests.{leb-true, le-leb}
 use Rattle.head.specs.declared.Phase.{Phase}
 use Rattle.head.specs.declared.Phase.the-variants.{Waiting, Loading, Started, Stopped}
 use Rattle.head.specs.declared.State.{State}
-use Rattle.abi.specs.Layout.{Memory, lent, phaseNumber, phaseOf, asBit, flagsOf, flagsIn, flagIn, holds, stateIn, memoryOf}
+use Rattle.abi.specs.Layout.{Memory, lent, phaseNumber, phaseOf, asBit, flagsOf, flagIn, holds, stateIn, memoryOf}
 use Rattle.abi.specs.Theorems.{Sized, Lengths}
 
 -- ---- phases and flags
@@ -43,21 +43,25 @@ to-bit zero h = refl
 to-bit (suc zero) h = refl
 to-bit (suc (suc k)) h = absurd (omega arith)
 
-record Flags (v c u s : Bool) : Type 0 where
-  verify : flagIn 1 (flagsOf v c u s) ≡ v
-  chained : flagIn 2 (flagsOf v c u s) ≡ c
-  used : flagIn 4 (flagsOf v c u s) ≡ u
-  second : flagIn 8 (flagsOf v c u s) ≡ s
-  small : flagsOf v c u s ≤ 15
+-- the flag of weight 1
+pub low : (k : ℕ) → k / 1 ≡ k
+low k = omega arith
 
-flags-back : (v c u s : Bool) → Flags v c u s
+record Flags (v c u s : Bool) (k : ℕ) : Type 0 where
+  verify : flagIn 1 k ≡ v
+  chained : flagIn 2 k ≡ c
+  used : flagIn 4 k ≡ u
+  second : flagIn 8 k ≡ s
+  small : k ≤ 15
+
+flags-back : (v c u s : Bool) → Flags v c u s (asBit v + 2 * asBit c + 4 * asBit u + 8 * asBit s)
 flags-back v c u s =
-    let k = flagsOf v c u s in
+    let k = asBit v + 2 * asBit c + 4 * asBit u + 8 * asBit s in
     let lv = at-most-1 v in
     let lc = at-most-1 c in
     let lu = at-most-1 u in
     let ls = at-most-1 s in
-    let q1 : k / 1 ≡ k = omega arith in
+    let q1 = low k in
     let q2 : k / 2 ≡ asBit c + 2 * asBit u + 4 * asBit s = omega arith in
     let q4 : k / 4 ≡ asBit u + 2 * asBit s = omega arith in
     let q8 : k / 8 ≡ asBit s = omega arith in
@@ -69,9 +73,9 @@ flags-back v c u s =
       small = omega arith;
     }
 
-flags-forth : (k : ℕ) → k ≤ 15 → flagsOf (flagIn 1 k) (flagIn 2 k) (flagIn 4 k) (flagIn 8 k) ≡ k
+flags-forth : (k : ℕ) → k ≤ 15 → asBit (flagIn 1 k) + 2 * asBit (flagIn 2 k) + 4 * asBit (flagIn 4 k) + 8 * asBit (flagIn 8 k) ≡ k
 flags-forth k h =
-    let q1 : k / 1 ≡ k = omega arith in
+    let q1 = low k in
     let q2 : k / 2 ≡ 2 * (k / 4) + k / 2 % 2 = omega arith in
     let q4 : k / 4 ≡ 2 * (k / 8) + k / 4 % 2 = omega arith in
     let q8 : k / 8 % 2 ≡ k / 8 = omega arith in
@@ -104,7 +108,7 @@ module _ (s : State) (z : Sized s) where
   tail1 = s .config .digests .first ++ tail2
 
   abbrev small : List ℕ
-  small = s .incoming .header ∷ s .incoming .got ∷ phaseNumber (s .progress .phase) ∷ flagsIn s ∷ tail1
+  small = s .incoming .header ∷ s .incoming .got ∷ phaseNumber (s .progress .phase) ∷ flagsOf s ∷ tail1
 
   abbrev all : List ℕ
   all = s .incoming .body ++ small
@@ -150,17 +154,18 @@ module _ (s : State) (z : Sized s) where
   second-back : take 32 (drop 236 all) ≡ s .config .digests .second
   second-back = ap (take 32) at-second ∙ take-all 32 (s .config .digests .second) (let u = z .second in omega arith)
 
+  flags : Flags (s .config .verify) (s .config .chained) (s .progress .«uss_used») (s .config .digests .«has_second») (flagsOf s)
+  flags = flags-back (s .config .verify) (s .config .chained) (s .progress .«uss_used») (s .config .digests .«has_second»)
+
   held : holds all ≡ true
   held =
-      let f = flags-back (s .config .verify) (s .config .chained) (s .progress .«uss_used») (s .config .digests .«has_second») in
-      rw (one 2, one 3, le-leb _ _ (phase-back (s .progress .phase) .1), le-leb _ _ (f .small))
+      rw (one 2, one 3, le-leb _ _ (phase-back (s .progress .phase) .1), le-leb _ _ (flags .small))
 
   at-all : stateIn (lent (memoryOf s .numbers) all) ≡ s
   unfolding stateIn memoryOf
   at-all =
-      let f = flags-back (s .config .verify) (s .config .chained) (s .progress .«uss_used») (s .config .digests .«has_second») in
       let b : take 128 all ≡ s .incoming .body = take-at (s .incoming .body) small 128 (z .body) in
-      rw (one 0, one 1, one 2, one 3, b, first-back, measured-back, udi-back, uss-back, second-back, f .verify, f .chained, f .used, f .second, phase-back (s .progress .phase) .0)
+      rw (one 0, one 1, one 2, one 3, b, first-back, measured-back, udi-back, uss-back, second-back, flags .verify, flags .chained, flags .used, flags .second, phase-back (s .progress .phase) .0)
 
   pub back : (holds (memoryOf s .bytes) ≡ true) × (stateIn (memoryOf s) ≡ s)
   back = (rw in-parts held, ap (λ (b : List ℕ). stateIn (lent (memoryOf s .numbers) b)) in-parts ∙ at-all)

@@ -10,7 +10,7 @@ use Rattle.endian.specs.Lists.{zeros}
 use Rattle.head.specs.State.{idle, ended}
 use Rattle.head.specs.Gather.{withIncoming}
 use Rattle.head.specs.declared.Phase.the-variants.{Stopped}
-use Rattle.abi.specs.Layout.{Memory, lent, holds, stateIn, memoryOf}
+use Rattle.abi.specs.Layout.{lent, holds, stateIn, memoryOf}
 use Rattle.abi.proofs.RoundTrip.{forth}
 
 module _ (n b : List ℕ) (numbers : length n ≡ 3) (full : length b ≡ 268) (held : holds b ≡ true) where

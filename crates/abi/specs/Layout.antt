@@ -34,8 +34,8 @@ phaseOf k = cond (eqb k 0) Waiting (cond (eqb k 1) Loading (cond (eqb k 2) Start
 abbrev pub asBit : Bool → ℕ
 asBit t = cond t 1 0
 
-abbrev pub flagsOf : Bool → Bool → Bool → Bool → ℕ
-flagsOf verify chained used second = asBit verify + 2 * asBit chained + 4 * asBit used + 8 * asBit second
+abbrev pub flagsOf : State → ℕ
+flagsOf s = asBit (s .config .verify) + 2 * asBit (s .config .chained) + 4 * asBit (s .progress .«uss_used») + 8 * asBit (s .config .digests .«has_second»)
 
 -- and back: the flag of weight w; a number over 15 is no flags
 abbrev pub flagIn : ℕ → ℕ → Bool
@@ -71,13 +71,9 @@ stateIn m =
           };
     }
 
--- the flags of a state
-abbrev pub flagsIn : State → ℕ
-flagsIn s = flagsOf (s .config .verify) (s .config .chained) (s .progress .«uss_used») (s .config .digests .«has_second»)
-
 -- the four bytes after the body
 abbrev pub smallOf : State → List ℕ
-smallOf s = s .incoming .header ∷ s .incoming .got ∷ phaseNumber (s .progress .phase) ∷ flagsIn s ∷ []
+smallOf s = s .incoming .header ∷ s .incoming .got ∷ phaseNumber (s .progress .phase) ∷ flagsOf s ∷ []
 
 -- the memory of a state
 unfoldable pub memoryOf : State → Memory

@@ -4,7 +4,7 @@ use mathlib.Core.Path.{_≡_}
 use mathlib.Core.Bool.{Bool, true, _&&_, _||_}
 use mathlib.Core.List.{List, [], _∷_, _++_, map}
 use lib.Dec.{eqb, leb}
-use lib.ListN.{length, replicate}
+use lib.ListN.{length, getD, replicate}
 use Rattle.endian.specs.Lists.{zeros, padded}
 use Rattle.head.specs.Answers.{reportOf}
 use Rattle.head.specs.Begin.{Flash, flashOf, beginning}
@@ -44,7 +44,7 @@ abbrev pub callsOn : Memory → List Call → List GatherCall
 callsOn m [] = []
 callsOn m (c ∷ cs) = callOn m c ∷ callsOn (callOn m c .memory) cs
 
--- ---- an example, as literal bytes: the record of type 5 with RESET_SEED and two digests, the UDI 1 to 8, two bytes of RAM, and nothing in flash
+-- ---- an example, as literal bytes: the record of type 5 with RESET_SEED and both allowed digests, the UDI 1 to 8, two bytes of RAM, and nothing in flash
 
 abbrev pub exampleRecord : List ℕ
 exampleRecord = (5 ∷ 0 ∷ 0 ∷ 0 ∷ 3 ∷ 0 ∷ 0 ∷ 0 ∷ []) ++ replicate 32 0xaa ++ replicate 32 0xbb ++ replicate 32 0xcc ++ zeros 152
@@ -58,11 +58,17 @@ exampleMemory body header got =
     lent (2 ∷ 0 ∷ 0 ∷ [])
     (padded 128 body ++ (header ∷ got ∷ 0 ∷ 11 ∷ []) ++ replicate 32 0xaa ++ replicate 32 0xbb ++ exampleUdi ++ zeros 32 ++ replicate 32 0xcc)
 
+-- the flags that begin leaves for such a record, of another type and with another mask
+abbrev pub exampleFlags : ℕ → ℕ → ℕ
+exampleFlags type mask =
+    getD (beginCall (lent [] []) (type ∷ 0 ∷ 0 ∷ 0 ∷ mask ∷ zeros 251) exampleUdi (flashOf [] 0 [] 0 (zeros 32)) (0 ∷ 0 ∷ []) (zeros 8) (startIn [] [] []) .memory .bytes) 131 0
+
 -- what begin, the query 10 01 byte by byte, and the acting on it leave
 pub record Example : Type 0 where
   pub begins : (m : Memory) (old : Start)
       → beginCall m exampleRecord exampleUdi (flashOf [] 0 [] 0 (zeros 32)) (0 ∷ 0 ∷ []) (zeros 8) old
       ≡ beginTold 0 (exampleMemory [] 0 0) (startIn (0 ∷ 0 ∷ []) (zeros 32) (zeros 32)) (0 ∷ 0 ∷ []) (zeros 8)
+  pub flags : (exampleFlags 5 0 ≡ 1) × (exampleFlags 4 1 ≡ 2) × (exampleFlags 4 2 ≡ 8) × (exampleFlags 4 0xfc ≡ 0)
   pub header : gatherCall (exampleMemory [] 0 0) 0x10 ≡ gatherTold 0 (exampleMemory [] 0x10 1)
   pub query : gatherCall (exampleMemory [] 0x10 1) 0x01 ≡ gatherTold 64 (exampleMemory (0x01 ∷ []) 0x10 2)
   pub reply : (old : Start) → actCall (exampleMemory (0x01 ∷ []) 0x10 2) (replicate 129 0xee) (0 ∷ 0 ∷ []) (zeros 8) 7 old

@@ -1,9 +1,9 @@
 // The state taken out of lent memory, and put back.
 ghost use mathlib.Core.Path.{_≡_};
-ghost use Prim.Native.Nat.{_+_, _≤_, _<_, _^_};
+ghost use Prim.Native.Nat.{_+_, _*_, _≤_, _<_, _^_};
 ghost use lib.ListN.{length, take, drop};
 ghost use lib.Seq.{paste};
-ghost use Rattle.abi.specs.Layout.{lent, holds, stateIn, memoryOf, smallOf, phaseOf, phaseNumber, asBit, flagsOf};
+ghost use Rattle.abi.specs.Layout.{lent, holds, stateIn, memoryOf, smallOf, phaseOf, phaseNumber, asBit};
 use loader::Config;
 use loader::Incoming;
 use loader::Phase;
@@ -152,7 +152,7 @@ fn as_bit(b: bool) -> u8
 }
 
 fn flags_of(verify: bool, chained: bool, uss_used: bool, has_second: bool) -> u8
-    ensures { λ r. ⌜ r ≡ flagsOf verify chained «uss_used» «has_second» ⌝ }
+    ensures { λ r. ⌜ r ≡ asBit verify + 2 * asBit chained + 4 * asBit «uss_used» + 8 * asBit «has_second» ⌝ }
 {
     as_bit(verify) + 2 * as_bit(chained) + 4 * as_bit(uss_used) + 8 * as_bit(has_second)
 }

@@ -10,7 +10,7 @@ use Rattle.endian.specs.Endian.{word, firstBytes}
 use Rattle.rfc7693.specs.Rfc7693.{rotr, words, iv, sigma, added, xorRotated, G, workVector, round, rounds, F, input, blockAt, blockCount, leading, compressions, compressed, initial, blake2s}
 use Rattle.protocol.specs.Commands.{loadIn}
 use Rattle.protocol.specs.Replies.{putIn, replyHeader, sent, nameReply, udiReply, loadReply, blockReply, digestReply}
-use Rattle.endian.specs.Lists.{padded, zeros}
+use Rattle.endian.specs.Lists.{zeros}
 use Rattle.record.specs.Record.{recordAt}
 use Rattle.record.specs.declared.Digests.{Digests}
 use Rattle.cdi.specs.Cdi.{cdiString, cdiOf}
@@ -22,7 +22,7 @@ use Rattle.head.specs.Start.{starting, decided}
 use Rattle.head.specs.Begin.{Slot, programIn, fits, fromFlash, beginning}
 use Rattle.head.specs.Gather.{byteStep, gatherRefusal, gathered}
 use Rattle.head.specs.Act.{loadAnswer, finishedWith, actedBlock, actRefusal, acted}
-use Rattle.head.specs.KnownAnswers.{digestOfAbc, digestOfZero, flashed, BeginTypes, Begins, TwoDigests, KnownAnswers}
+use Rattle.head.specs.KnownAnswers.{digestOfAbc, digestOfZero, flashed, lastAnswer, BeginTypes, Begins, TwoDigests, KnownAnswers}
 use Rattle.head.specs.declared.Phase.the-variants as phase
 use Rattle.head.specs.declared.Config.{Config}
 
@@ -82,23 +82,15 @@ begin-types = record {
   unknown = refl;
 }
 
--- what a config is on a record of two digests, with one byte of RAM
-abbrev either : Digests → Bool → Bool → Config
-either a verify chained = record { «ram_len» = 1; «measured_id» = zeros 32; udi = zeros 8; digests = a; verify = verify; chained = chained }
-
--- the one block of the program is acted on, by what it is decided
+-- the one block of the program is acted on, by what is decided of it
 last-block : (a : Digests) (v r : Bool)
-    → acted
-    (record { incoming = record { header = 0x13; got = 129; body = padded 128 (0x05 ∷ []) }; config = either a v r; progress = ofSize phase.Loading 1 })
-    (zeros 129)
-    (0 ∷ [])
-    (zeros 8)
-    .report ≡ decided (either a v r) (ofSize phase.Loading 1) digestOfZero (0 ∷ []) (zeros 8) .report
+    → let c : Config = record { «ram_len» = 1; «measured_id» = zeros 32; udi = zeros 8; digests = a; verify = v; chained = r } in
+    lastAnswer c ≡ decided c (ofSize phase.Loading 1) digestOfZero (0 ∷ []) (zeros 8) .report
 unfolding acted actRefusal inRange headerAt fieldsAt actedBlock finishedWith word rotr words firstBytes iv sigma added xorRotated G workVector round rounds F input blockAt blockCount leading compressions compressed initial blake2s
 last-block a v r = refl
 
 two-digests : TwoDigests
-unfolding beginning decided starting ended putIn recordAt word report-of
+unfolding beginning decided starting ended putIn recordAt word report-of inRange headerAt fieldsAt
 two-digests = record {
   set = refl;
   clear = refl;
@@ -107,7 +99,11 @@ two-digests = record {
   type-5 = (last-block _ _ _, last-block _ _ _, last-block _ _ _, last-block _ _ _);
   zeros-allow-nothing = refl;
   type-0 = ap report-of (of-abc _);
-  type-4 = (last-block _ _ _, refl);
+  type-4 = last-block _ _ _;
+  state-4 = (refl, refl);
+  state-5 = (refl, refl);
+  any-digests = λ a. refl;
+  bit-decides = last-block _ _ _;
 }
 
 begins : Begins
@@ -141,5 +137,5 @@ known-answers = record {
   not-taken = (refl, refl, refl, refl);
   foreign = (refl, refl);
   after-stop = (refl, refl, refl);
-  ends = λ p m. (refl, refl, refl, refl, refl, refl, refl);
+  ends = λ p m. (refl, refl, refl, refl, refl, refl, refl, refl, refl);
 }

@@ -13,8 +13,9 @@ use Rattle.protocol.specs.Replies.{sent, nameReply, udiReply, loadReply, blockR
 use Rattle.protocol.specs.declared.Load.{Load}
 use Rattle.record.specs.Record.{recordAt}
 use Rattle.record.specs.Types.{oneOf}
+use Rattle.record.specs.declared.Digests.{Digests}
 use Rattle.cdi.specs.Theorems.{Strings}
-use Rattle.head.specs.State.{idle, ofSize, noDigests, ended}
+use Rattle.head.specs.State.{inRange, idle, ofSize, ended}
 use Rattle.head.specs.Answers.{Report, refused, continues, whole, stopped, started, Result}
 use Rattle.head.specs.Start.{ending}
 use Rattle.head.specs.Begin.{Flash, flashOf, fits, beginning}
@@ -23,6 +24,7 @@ use Rattle.head.specs.Act.{loaded, acted}
 use Rattle.head.specs.Theorems.{gatheredOn}
 use Rattle.head.specs.declared.Phase.{Phase}
 use Rattle.head.specs.declared.Phase.the-variants as phase
+use Rattle.head.specs.declared.Config.{Config}
 use Rattle.head.specs.declared.State.{State}
 
 -- a load of one byte, with a flag; its user secret is zeros
@@ -60,7 +62,7 @@ flashed n0 n1 builtIn = flashOf (97 ∷ 98 ∷ 99 ∷ 100 ∷ 101 ∷ []) n0 (0 
 abbrev pub begunOn : List ℕ → Flash → Result
 begunOn rec f = beginning (padded 256 rec) (zeros 8) f (9 ∷ 9 ∷ 9 ∷ 9 ∷ []) (1 ∷ 2 ∷ 3 ∷ 4 ∷ 5 ∷ 6 ∷ 7 ∷ 8 ∷ [])
 
--- a record of this type with mask 0, which allows this digest
+-- a record of this type with mask 0 and this first digest
 abbrev pub typed : ℕ → List ℕ → List ℕ
 typed type digest = type ∷ 0 ∷ 0 ∷ 0 ∷ 0 ∷ 0 ∷ 0 ∷ 0 ∷ digest
 
@@ -68,7 +70,7 @@ typed type digest = type ∷ 0 ∷ 0 ∷ 0 ∷ 0 ∷ 0 ∷ 0 ∷ 0 ∷ digest
 pub record BeginTypes : Type 0 where
   -- not the record's
   pub flash-0 : begunOn (typed 0 digestOfAbc) (flashed 3 1 digestOfZero) .report ≡ stopped 25
-  -- none
+  -- any
   pub flash-1 : begunOn (typed 1 digestOfAbc) (flashed 3 1 digestOfAbc) .report ≡ started 0x40000000 1
   -- the record's, and not the built-in one
   pub flash-0-ver : begunOn (typed 2 digestOfAbc) (flashed 3 1 digestOfZero) .report ≡ started 0x40000000 3
@@ -127,28 +129,33 @@ replyToSize0 h =
 abbrev pub numbered : ℕ → List ℕ
 numbered mask = (5 ∷ 0 ∷ 0 ∷ 0 ∷ mask ∷ 0 ∷ 0 ∷ 0 ∷ []) ++ each 248 (λ i. 8 + i)
 
--- a record of this type with this first byte of its mask, which allows the first digest and, if mask bit 1 is set, the second
+-- a record of this type with this first byte of its mask and these digests in bytes 8 to 39 and 72 to 103
 abbrev pub twoDigests : ℕ → ℕ → List ℕ → List ℕ → List ℕ
 twoDigests type mask first second = type ∷ 0 ∷ 0 ∷ 0 ∷ mask ∷ 0 ∷ 0 ∷ 0 ∷ first ++ zeros 32 ++ second
 
--- with one byte of RAM, where a load of one byte came, and now the block that carries a byte 0
-abbrev pub atLastBlock : List ℕ → State
-atLastBlock rec =
-    record {
-      incoming = record { header = 0x13; got = 129; body = padded 128 (0x05 ∷ []) };
-      config = beginning (padded 256 rec) (zeros 8) (flashed 0 0 []) (0 ∷ []) (zeros 8) .state .config;
-      progress = ofSize phase.Loading 1;
-    }
+-- begin with one byte of RAM; a load of one byte came then, and now the block that carries a byte 0
+abbrev pub configOn : List ℕ → Config
+configOn rec = beginning (padded 256 rec) (zeros 8) (flashed 0 0 []) (0 ∷ []) (zeros 8) .state .config
+
+abbrev pub atLastBlock : Config → State
+atLastBlock c = record { incoming = record { header = 0x13; got = 129; body = padded 128 (0x05 ∷ []) }; config = c; progress = ofSize phase.Loading 1 }
 
 -- what comes of the program: begin's answer, and that of the acting on the last block
 abbrev pub fromSlots : List ℕ → Report
 fromSlots rec = begunOn rec (flashed 3 1 []) .report
 
-abbrev pub fromClient : List ℕ → Report
-fromClient rec = acted (atLastBlock rec) (zeros 129) (0 ∷ []) (zeros 8) .report
+abbrev pub lastAnswer : Config → Report
+lastAnswer c = acted (atLastBlock c) (zeros 129) (0 ∷ []) (zeros 8) .report
 
--- a program of n bytes with the digest d, where x is another: the record allows it as the second only, as the first only, or not; and mask 0xFD has
--- all bits of the byte but bit 1
+abbrev pub fromClient : List ℕ → Report
+fromClient rec = lastAnswer (configOn rec)
+
+-- a config with one byte of RAM that goes by these digests
+abbrev pub verifying : Digests → Config
+verifying a = record { «ram_len» = 1; «measured_id» = zeros 32; udi = zeros 8; digests = a; verify = true; chained = false }
+
+-- a program of n bytes with the digest d, where x is another: the record allows it as the second only, as the first only, or not at all; and it has
+-- it in the second's place with bit 1 clear: mask 0xFD has every other bit of the byte
 abbrev pub EitherStarts : (List ℕ → Report) → ℕ → ℕ → List ℕ → List ℕ → Type 0
 EitherStarts comesOf type n d x =
     (comesOf (twoDigests type 2 x d) ≡ started 0x40000000 n) × (comesOf (twoDigests type 2 d x) ≡ started 0x40000000 n)
@@ -174,14 +181,20 @@ pub record TwoDigests : Type 0 where
   pub type-2 : EitherStarts fromSlots 2 3 digestOfAbc digestOfZero
   pub type-3 : EitherStarts fromSlots 3 1 digestOfZero digestOfAbc
   pub type-5 : EitherStarts fromClient 5 1 digestOfZero digestOfAbc
-  -- those zeros allow nothing
+  -- the zeros of `clear` allow nothing
   pub zeros-allow-nothing : oneOf (recordAt (numbered 1) .digests) (zeros 32) ≡ false
   -- type 0 has its built-in digest only
   pub type-0 : begunOn (twoDigests 0 2 digestOfAbc digestOfAbc) (flashed 3 1 digestOfZero) .report ≡ stopped 25
-  -- type 4 allows any digest, and has all of the record in its state
-  pub type-4 : (fromClient (twoDigests 4 2 digestOfAbc digestOfAbc) ≡ started 0x40000000 1)
-      × (atLastBlock (twoDigests 4 2 digestOfAbc digestOfZero) .config .digests
-      ≡ record { first = digestOfAbc; second = digestOfZero; «has_second» = true })
+  -- type 4 allows any digest
+  pub type-4 : fromClient (twoDigests 4 2 digestOfAbc digestOfAbc) ≡ started 0x40000000 1
+  -- what the state has: both digests and the bit, or zeros and no bit
+  pub state-4 : (configOn (twoDigests 4 2 digestOfAbc digestOfZero) .digests ≡ record { first = digestOfAbc; second = digestOfZero; «has_second» = true })
+      × (configOn (twoDigests 4 0xfd digestOfAbc digestOfZero) .digests ≡ record { first = digestOfAbc; second = zeros 32; «has_second» = false })
+  pub state-5 : (configOn (twoDigests 5 2 digestOfAbc digestOfZero) .digests ≡ record { first = digestOfAbc; second = digestOfZero; «has_second» = true })
+      × (configOn (twoDigests 5 0xfd digestOfAbc digestOfZero) .digests ≡ record { first = digestOfAbc; second = zeros 32; «has_second» = false })
+  -- the digests have no range: any are taken, and without the bit a second one that is no zeros allows nothing
+  pub any-digests : (a : Digests) → inRange (atLastBlock (verifying a)) ≡ true
+  pub bit-decides : lastAnswer (verifying (record { first = digestOfAbc; second = digestOfZero; «has_second» = false })) ≡ stopped 25
 
 pub record KnownAnswers : Type 0 where
   -- flags 0, 1, 2 and 255, in byte 6: 0 means that there is no user secret, 1 that it is used, also one of zeros, and a load with another is
@@ -228,5 +241,6 @@ pub record KnownAnswers : Type 0 where
   pub after-stop : (gathered (having []) 0x90 .report ≡ stopped 22) × (gathered (having (0x90 ∷ [])) 0x10 .report ≡ refused 2)
       × (acted (having (0x90 ∷ [])) [] [] [] .report ≡ refused 2)
   -- nothing of a session is left in the state after a stop or a start
-  pub ends : (p : Phase) (m : ℕ) → (ended p m .incoming ≡ idle) × (ended p m .config .digests ≡ noDigests) × (ended p m .config .«measured_id» ≡ zeros 32)
+  pub ends : (p : Phase) (m : ℕ) → (ended p m .incoming ≡ idle) × (ended p m .config .digests .first ≡ zeros 32) × (ended p m .config .digests .second ≡ zeros 32)
+      × (ended p m .config .digests .«has_second» ≡ false) × (ended p m .config .«measured_id» ≡ zeros 32)
       × (ended p m .config .udi ≡ zeros 8) × (ended p m .progress .uss ≡ zeros 32) × (ended p m .progress .phase ≡ p) × (ended p m .config .«ram_len» ≡ m)

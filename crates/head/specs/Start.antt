@@ -1,5 +1,5 @@
--- Whether a program that was measured starts, and what a start is and gives: document 01, "Commands and replies". It stands once, for a program
--- that a client sent (Act) and for one from flash (Begin).
+-- Whether a program that was measured starts, and what a start is and gives: document 01, "Commands and replies", and change request 6. It stands
+-- once, for a program that a client sent (Act) and for one from flash (Begin).
 use Prim.Native.Nat.{ℕ}
 use mathlib.Core.Bool.{Bool, true, cond}
 use mathlib.Core.List.{List}

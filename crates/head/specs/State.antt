@@ -1,14 +1,15 @@
 -- The state of a head between two calls, and the range of each field: refusal 1 of document 01, docs/STATES.md. Its parts and their fields:
 -- incoming, the frame that is being gathered or is whole: header, got (how many of its bytes have come, the header among them), body;
--- config, what begin fixed: ram_len, measured_id, udi, digests (the allowed ones: first, second, has_second), verify, chained;
+-- config, what begin fixed: ram_len, measured_id, udi, digests (the allowed ones: first, second and has_second, which for types 4 and 5 is mask
+-- bit 1 as it came), verify, chained;
 -- progress, how far the load is: phase, size, block (the number of the next), uss_used, uss.
 use Prim.Native.Nat.{ℕ, _+_}
 use mathlib.Core.Bool.{Bool, true, false, cond, _&&_, _||_}
 use lib.Dec.{eqb, leb, ltb}
 use Rattle.endian.specs.Lists.{zeros}
 use Rattle.framing.specs.Header.{Reading, good, stop, headerAt, bodyLen}
+use Rattle.record.specs.Types.{alone}
 use Rattle.protocol.specs.Commands.{firmware, lengthOk, blocksFor}
-use Rattle.record.specs.declared.Digests.{Digests}
 use Rattle.head.specs.declared.Phase.{Phase}
 use Rattle.head.specs.declared.Phase.the-variants.{Waiting, Loading, Started, Stopped}
 use Rattle.head.specs.declared.Incoming.{Incoming}
@@ -66,15 +67,11 @@ idle = record { header = 0; got = 0; body = zeros 128 }
 abbrev pub ofSize : Phase → ℕ → Progress
 ofSize p n = record { phase = p; size = n; block = 0; «uss_used» = false; uss = zeros 32 }
 
--- no digest is kept
-abbrev pub noDigests : Digests
-noDigests = record { first = zeros 32; second = zeros 32; «has_second» = false }
-
 -- the state after a start or a stop: the phase and the RAM's length, and zeros
 unfoldable pub ended : Phase → ℕ → State
 ended p m =
     record {
       incoming = idle;
-      config = record { «ram_len» = m; «measured_id» = zeros 32; udi = zeros 8; digests = noDigests; verify = false; chained = false };
+      config = record { «ram_len» = m; «measured_id» = zeros 32; udi = zeros 8; digests = alone (zeros 32); verify = false; chained = false };
       progress = ofSize p 0;
     }

@@ -50,7 +50,7 @@ pub struct Config {
     pub ram_len: usize,
     pub measured_id: [u8; 32],
     pub udi: [u8; 8],
-    // After the other arrays, which then lie on words.
+    // Behind the other arrays: its size is odd, and what comes after it does not lie on a word.
     pub digests: Digests,
     // Whether the program must have one of these digests.
     pub verify: bool,

@@ -16,10 +16,11 @@ pub record Example : Type 0 where
 abbrev pub Told : Example → Type 0
 Told e = diagnosis (e .rec) (e .ram) (e .bytes) ≡ e .tells
 
--- a record of type t that allows the digest d, and one of type 5 with this mask, which has the digests d and e
+-- a record of type t with the digest d
 abbrev recordOf : ℕ → List ℕ → List ℕ
 recordOf t d = t ∷ 0 ∷ 0 ∷ 0 ∷ zeros 4 ++ (d ++ zeros 216)
 
+-- one of type 5 with the first byte of its mask, and the digests d and e
 abbrev recordOfTwo : ℕ → List ℕ → List ℕ → List ℕ
 recordOfTwo mask d e = 5 ∷ 0 ∷ 0 ∷ 0 ∷ mask ∷ zeros 3 ++ (d ++ (zeros 32 ++ (e ++ zeros 152)))
 
@@ -43,7 +44,7 @@ weighed r byte frame offset d = record { reason = r; byte = byte; frame = frame;
 abbrev told : Reason → ℕ → ℕ → ℕ → Explained
 told r byte frame offset = weighed r byte frame offset (zeros 32)
 
--- on a record of type 4, with 1,024 bytes of RAM, and on one of type 5 that allows the digest d
+-- on a record of type 4, with 1,024 bytes of RAM, and on one of type 5 with the digest d
 abbrev heard : List ℕ → Explained → Example
 heard bytes x = record { rec = recordOf 4 (zeros 32); ram = 1024; bytes = bytes; tells = x }
 

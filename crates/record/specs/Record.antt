@@ -1,5 +1,5 @@
 -- The reset record: document 01, "Reset record and lent memory", and change request 6. One table says where each field stands.
-use Prim.Native.Nat.{ℕ, _/_, _%_}
+use Prim.Native.Nat.{ℕ, _-_, _/_, _%_}
 use mathlib.Core.Bool.{Bool, cond}
 use mathlib.Core.Option.{Option, none, some}
 use mathlib.Core.List.{List}
@@ -24,26 +24,19 @@ abbrev pub maskField : Field
 maskField = record { from = 4; size = 4 }
 
 -- the first allowed digest, which document 01 calls required
-abbrev pub firstField : Field
-firstField = record { from = 8; size = 32 }
+abbrev pub firstDigestField : Field
+firstDigestField = record { from = 8; size = 32 }
 
 abbrev pub measuredIdField : Field
 measuredIdField = record { from = 40; size = 32 }
 
--- the second allowed digest, if mask bit 1 says that there is one
-abbrev pub secondField : Field
-secondField = record { from = 72; size = 32 }
+-- the second allowed digest, if there is one
+abbrev pub secondDigestField : Field
+secondDigestField = record { from = 72; size = 32 }
 
--- the bits of a mask; bits 2 to 31 are ignored
-abbrev pub resetSeed : ℕ → Bool
-resetSeed mask = eqb (mask % 2) 1
-
-abbrev pub hasSecond : ℕ → Bool
-hasSecond mask = eqb (mask / 2 % 2) 1
-
--- data for the next program, which the loader does not read: all that comes after the last digest
-abbrev pub dataField : ℕ → Field
-dataField mask = cond (hasSecond mask) (record { from = 104; size = 152 }) (record { from = 72; size = 184 })
+-- data for the next program, which the loader does not read: from byte 104 on or, where there is no second digest, from byte 72 on
+abbrev pub dataField : Bool → Field
+dataField has = let from : ℕ = cond has 104 72 in record { from = from; size = 256 - from }
 
 -- the bytes of a field
 abbrev pub fieldOf : Field → List ℕ → List ℕ
@@ -84,12 +77,18 @@ recordOf r =
 abbrev pub knownType : ℕ → Option ℕ
 knownType n = cond (ltb n 6) (some n) none
 
--- where there is no second digest, zeros stand for it: data is not read
-abbrev pub secondAt : Bool → List ℕ → List ℕ
-secondAt has bytes = cond has (fieldOf secondField bytes) (zeros 32)
+-- mask bit 0: RESET_SEED
+abbrev pub resetSeed : ℕ → Bool
+resetSeed mask = eqb (mask % 2) 1
 
+-- mask bit 1: there is a second digest. Bits 2 to 31 are ignored
+abbrev pub hasSecond : ℕ → Bool
+hasSecond mask = eqb (mask / 2 % 2) 1
+
+-- where there is no second digest, zeros stand for it: data is not read
 abbrev pub digestsAt : Bool → List ℕ → Digests
-digestsAt has bytes = record { first = fieldOf firstField bytes; second = secondAt has bytes; «has_second» = has }
+digestsAt has bytes =
+    record { first = fieldOf firstDigestField bytes; second = cond has (fieldOf secondDigestField bytes) (zeros 32); «has_second» = has }
 
 unfoldable pub recordAt : List ℕ → Contents
 recordAt bytes =

@@ -39,13 +39,14 @@ sourceOf t =
 abbrev pub verifies : Option ℕ → Bool
 verifies t = isType t 0 || isType t 2 || isType t 3 || isType t 5
 
--- that of type 0 is built in, and is the only one; those of the others are the record's
-abbrev pub only : List ℕ → Digests
-only d = record { first = d; second = zeros 32; «has_second» = false }
+-- one digest, and no second
+abbrev pub alone : List ℕ → Digests
+alone d = record { first = d; second = zeros 32; «has_second» = false }
 
+-- type 0 has the built-in digest alone; the others have what the record says, also those that verify nothing
 abbrev pub digestsOf : Option ℕ → List ℕ → Digests → Digests
-digestsOf t builtIn recorded = cond (isType t 0) (only builtIn) recorded
+digestsOf t builtIn recorded = cond (isType t 0) (alone builtIn) recorded
 
--- d is one of the allowed digests
+-- demand 3, by change request 6: the digest d is one of them
 abbrev pub oneOf : Digests → List ℕ → Bool
-oneOf a d = same d (a .first) || (a .«has_second» && same d (a .second))
+oneOf allowed d = same d (allowed .first) || (allowed .«has_second» && same d (allowed .second))

@@ -1,10 +1,10 @@
 // The reset record, which the program before a reset leaves for the loader.
-// Document 01, "Reset record and lent memory", in the terms of specs/Record.antt and specs/Types.antt.
+// Document 01, "Reset record and lent memory", with change requests 3 and 6, in the terms of specs/Record.antt and specs/Types.antt.
 ghost use mathlib.Core.Path.{_≡_};
 ghost use Prim.Native.Nat.{_+_, _≤_};
 ghost use lib.ListN.{length, take, drop};
 ghost use Rattle.endian.specs.Lists.{padded};
-ghost use Rattle.record.specs.Record.{typeNumber, knownType, secondAt, digestsAt, recordOf, recordAt};
+ghost use Rattle.record.specs.Record.{typeNumber, knownType, digestsAt, recordOf, recordAt};
 ghost use Rattle.record.specs.Types.{sourceAt, sourceOf, verifies, digestsOf, oneOf};
 
 // Which program a reset asks for.
@@ -86,7 +86,7 @@ pub fn front(record: &[u8]) -> [u8; 256]
 // The second allowed digest. Where there is none its bytes are data, and data is not read.
 fn second_in(bytes: &[u8], has_second: bool) -> [u8; 32]
     requires { ⌜ length (now bytes) ≡ 256 ⌝ }
-    ensures { λ r. ⌜ r ≡ secondAt «has_second» (now (bytes .entry)) ⌝ }
+    ensures { λ r. ⌜ r ≡ digestsAt «has_second» (now (bytes .entry)) .second ⌝ }
 {
     if !has_second {
         return [0; 32];
@@ -149,7 +149,7 @@ pub fn verifies(t: ResetType) -> bool
     }
 }
 
-// The digests that are allowed then: type 0's only one is built in, those of the others are the record's.
+// The digests that are allowed: type 0's only one is built in, the others have what the record says.
 pub fn digests_of(r: Record, built_in: [u8; 32]) -> Digests
     ensures { λ a. ⌜ a ≡ digestsOf (typeNumber (r .«reset_type»)) «built_in» (r .digests) ⌝ }
 {
@@ -171,12 +171,12 @@ pub fn digests_of(r: Record, built_in: [u8; 32]) -> Digests
 }
 
 // Whether a digest is one of those that are allowed.
-pub fn one_of(a: Digests, digest: [u8; 32]) -> bool
-    ensures { λ r. ⌜ r ≡ oneOf a digest ⌝ }
+pub fn one_of(allowed: Digests, digest: [u8; 32]) -> bool
+    ensures { λ r. ⌜ r ≡ oneOf allowed digest ⌝ }
 {
-    let first = a.first;
-    let second = a.second;
+    let first = allowed.first;
+    let second = allowed.second;
     let is_first = endian::equal(&digest, &first);
     let is_second = endian::equal(&digest, &second);
-    is_first | (a.has_second & is_second)
+    is_first | (allowed.has_second & is_second)
 }

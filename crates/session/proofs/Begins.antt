@@ -232,6 +232,14 @@ client-begun R c = go (eqb (number R) 0) c
     go true (inr e) = rw e refl
     go false c = refl
 
+pub client-digests : (R : Reset) → Admitted R → AsksClient R → begun R .state .config .digests ≡ recordAt (R .rec) .digests
+unfolding recordAt
+client-digests R a c = ap (λ (x : Result). x .state .config .digests) (client-waits R a c) ∙ own c
+  where
+    own : AsksClient R → config R .digests ≡ recordAt (R .rec) .digests
+    own (inl e) = rw e refl
+    own (inr e) = rw e refl
+
 pub client-begins : (R R′ : Reset) → AsksClient R → R′ .rec ≡ R .rec → R′ .udi ≡ R .udi → length (R′ .ram) ≡ length (R .ram)
     → length (R′ .uds) ≡ length (R .uds) → begun R′ ≡ unstarted (begun R .report) (begun R .state) (R′ .ram) (R′ .uds)
 client-begins R R′ c er eu em ew = let c′ : AsksClient R′ = rw er c in rw (client-begun R′ c′, client-begun R c, er, eu, em, ew)

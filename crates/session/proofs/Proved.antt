@@ -31,7 +31,7 @@ use Rattle.session.proofs.Gathering.{is-part}
 use Rattle.session.proofs.Entries.{lastFrom, last-from}
 use Rattle.session.proofs.Walk.{Wholes, wholes-at, is-live, StartRead, Walk, walk}
 use Rattle.session.proofs.Ranges.{ranges}
-use Rattle.session.proofs.Begins.{Fresh, begin-accepted, begin-waits, fresh, client-begins, Runs, table-from}
+use Rattle.session.proofs.Begins.{Fresh, begin-accepted, begin-waits, fresh, client-begins, client-digests, Runs, table-from}
 use Rattle.session.proofs.Starts.{whole-before, nothing-after}
 use Rattle.session.proofs.ClientFrames as made
 use Rattle.session.proofs.Sending.{callsFor, AllAccepted, all-accepted}
@@ -242,6 +242,7 @@ verified-boot =
       begin-accepted = begin-accepted;
       begin-waits = begin-waits;
       client-begins = client-begins;
+      client-digests = client-digests;
       flash-exactly = flash-exactly;
       flash-gives = λ R t. let b = flash-exactly R .0 t in flash-gives R (b .0) (b .1) (b .2) (b .3);
       begin-stops = begin-stops;

@@ -1,6 +1,6 @@
 -- What a reset fixes: what the head goes by, which digest may start, and how the bytes of a start read.
 use Prim.Native.Nat.{ℕ, _<_}
-use mathlib.Core.Path.{_≡_, refl, sym, ap, _∙_}
+use mathlib.Core.Path.{_≡_, refl, sym}
 use mathlib.Core.Logic.{_↔_, _⊎_, inl, inr, ⊎-elim, ⊎-map}
 use mathlib.Core.Bool.{Bool, true, false, cond, _||_}
 use mathlib.Core.Option.{none, some}
@@ -10,12 +10,12 @@ use lib.Dec.{eqb, ltb}
 use lib.ListN.{length}
 use borrow.Author.Tests.{ltb-false, eqb-true, eqb-false, ne-eqb}
 use Rattle.endian.proofs.Cases.{impossible}
-use Rattle.record.specs.Record.{knownType, digestsAt, recordAt}
-use Rattle.record.specs.Types.{isType, only, oneOf}
+use Rattle.record.specs.Record.{maskField, numberIn, knownType, hasSecond, digestsAt, recordAt}
+use Rattle.record.specs.Types.{isType, alone, oneOf}
 use Rattle.record.proofs.Proved.{records}
 use Rattle.head.specs.Start.{allowed}
 use Rattle.head.specs.Begin.{configOf}
-use Rattle.session.specs.Reading.{typeOf, secondAllowed, Recorded, Allowed, Starting}
+use Rattle.session.specs.Reading.{typeOf, Recorded, Allowed, Starting}
 use Rattle.session.specs.Session.{Reset}
 use Rattle.record.specs.declared.Digests.{Digests}
 use Rattle.head.specs.declared.Config.{Config}
@@ -46,7 +46,7 @@ module _ (R : Reset) (d : List ℕ) where
   t = typeOf (R .rec)
 
   abbrev digests : Digests
-  digests = digestsAt (secondAllowed (R .rec)) (R .rec)
+  digests = digestsAt (hasSecond (numberIn maskField (R .rec))) (R .rec)
 
   abbrev ByRecord : Type 0
   ByRecord = (t ≡ 2) ⊎ ((t ≡ 3) ⊎ (t ≡ 5))
@@ -58,9 +58,9 @@ module _ (R : Reset) (d : List ℕ) where
         λ r. s .1 (⊎-map (λ x. x) (λ x. (x .0, rw (x .0) (x .1))) r),
       )
 
-  by-built-in : t ≡ 0 → (oneOf (only (R .flash .builtIn)) d ≡ true) ↔ AllowedOn R d
+  by-built-in : t ≡ 0 → (oneOf (alone (R .flash .builtIn)) d ≡ true) ↔ AllowedOn R d
   by-built-in e =
-      let s = records .one-of (only (R .flash .builtIn)) d in
+      let s = records .one-of (alone (R .flash .builtIn)) d in
       let n : ByRecord → ⊥ = λ z. ⊎-elim (λ x. omega arith) (λ y. ⊎-elim (λ x. omega arith) (λ x. omega arith) y) z in (
         λ q. record { built-in = λ z. ⊎-elim (λ x. x) (λ x. let w : _≡_ {A = Bool} false true = x .0 in impossible cc) (s .0 q); recorded = λ z. absurd (n z) },
         λ a. s .1 (inl (a .built-in (omega arith))),
@@ -82,7 +82,7 @@ module _ (R : Reset) (d : List ℕ) where
       (go (eqb t 0) (eqb t 2) (eqb t 3) (eqb t 5) refl refl refl refl)
     where
       go : (z x y v : Bool) → eqb t 0 ≡ z → eqb t 2 ≡ x → eqb t 3 ≡ y → eqb t 5 ≡ v
-          → (cond (z || x || y || v) (oneOf (cond z (only (R .flash .builtIn)) digests) d) true ≡ true) ↔ AllowedOn R d
+          → (cond (z || x || y || v) (oneOf (cond z (alone (R .flash .builtIn)) digests) d) true ≡ true) ↔ AllowedOn R d
       go true x y v ez ex ey ev = by-built-in (eqb-true t 0 ez)
       go false true y v ez ex ey ev = by-record (eqb-false t 0 ez) (inl (eqb-true t 2 ex))
       go false false true v ez ex ey ev = by-record (eqb-false t 0 ez) (inr (inl (eqb-true t 3 ey)))

@@ -1,4 +1,4 @@
--- Verified boot (document 01: demand 3, with change request 3): when a session has started, when begin starts a program from flash, what a start
+-- Verified boot (document 01: demand 3, with change requests 3 and 6): when a session has started, when begin starts a program from flash, what a start
 -- gives, what two starts with one string share, when a call is refused, when a frame is whole, and that there are starts. docs/PROMISES.md reads it
 -- beside document 01. The proof is `verified-boot` in proofs/Proved.antt.
 use Prim.Native.Nat.{ℕ, _≤_}
@@ -10,6 +10,7 @@ use mathlib.Core.List.{List, [], _∷_, _++_, flatten}
 use lib.Dec.{eqb}
 use lib.ListN.{length, getD, take, drop}
 use Rattle.rfc7693.specs.Rfc7693.{blake2s}
+use Rattle.record.specs.Record.{recordAt}
 use Rattle.endian.specs.Endian.{bytes}
 use Rattle.cdi.specs.Cdi.{domainOf, measurementOf, cdiString}
 use Rattle.protocol.specs.Commands.{loadIn, usesUss}
@@ -224,6 +225,8 @@ pub record VerifiedBoot : Type 0 where
   -- stay, and neither CDI nor digest is given
   pub client-begins : (R R′ : Reset) → AsksClient R → R′ .rec ≡ R .rec → R′ .udi ≡ R .udi → length (R′ .ram) ≡ length (R .ram)
       → length (R′ .uds) ≡ length (R .uds) → begun R′ ≡ unstarted (begun R .report) (begun R .state) (R′ .ram) (R′ .uds)
+  -- and the state then has the allowed digests of the record, and mask bit 1, as they came
+  pub client-digests : (R : Reset) → Admitted R → AsksClient R → begun R .state .config .digests ≡ recordAt (R .rec) .digests
   -- begin answers a start exactly when a program from flash is asked for, fits and is allowed; every such start gives what it should
   pub flash-exactly : (R : Reset) → FlashStarted R ↔ (Admitted R × AsksFlash R × Fits R × FlashAllowed R)
   pub flash-gives : (R : Reset) → FlashStarted R → FlashGives R

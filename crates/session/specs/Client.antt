@@ -77,7 +77,7 @@ module _ (program : List ℕ) (id : ℕ) (secret : Secret) where
   -- ---- the frames on a head
 
   -- a session of a fresh head of type 4 or 5 in which it gathered these frames, no call was refused and the last was an acting: RAM has room for
-  -- the program, and type 5 allows its digest
+  -- the program, and the record allows its digest
   pub record ReceivesFrames (S : Session) : Type 0 where
     pub fits : length program ≤ ramLen S
     pub allowed : Allowed (S .reset .rec) (S .reset .flash .builtIn) programDigest

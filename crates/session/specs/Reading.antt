@@ -1,5 +1,5 @@
--- How document 01 reads the bytes of a session: "The words of demand 3", sentence by sentence. Nothing here knows of a head or of its state. A
--- frame is the list of its bytes, the header first.
+-- How document 01 reads the bytes of a session: "The words of demand 3", sentence by sentence, with change request 6. Nothing here knows of a head
+-- or of its state. A frame is the list of its bytes, the header first.
 use Prim.Native.Nat.{ℕ, _+_}
 use mathlib.Core.Path.{_≡_}
 use mathlib.Core.Logic.{_⊎_}
@@ -11,7 +11,7 @@ use Rattle.endian.specs.Lists.{All}
 use Rattle.framing.specs.Header.{good, headerAt, inField, endpoint}
 use Rattle.rfc7693.specs.Rfc7693.{blake2s}
 use Rattle.protocol.specs.Commands.{firmware, commandIn, loadIn, goodLoad, carriedBy, blocksFor}
-use Rattle.record.specs.Record.{typeField, maskField, firstField, measuredIdField, secondField, resetSeed, hasSecond, fieldOf, numberIn}
+use Rattle.record.specs.Record.{typeField, maskField, firstDigestField, measuredIdField, secondDigestField, resetSeed, hasSecond, fieldOf, numberIn}
 
 -- a good frame: a header with bits 7 and 2 zero, then a body of the length that it gives; it is whole when all of that body is there
 pub record Good (f : List ℕ) : Type 0 where
@@ -80,13 +80,9 @@ typeOf rec = numberIn typeField rec
 abbrev pub chained : List ℕ → Bool
 chained rec = resetSeed (numberIn maskField rec)
 
--- mask bit 1: whether the record has a second allowed digest
-abbrev pub secondAllowed : List ℕ → Bool
-secondAllowed rec = hasSecond (numberIn maskField rec)
-
 -- the digest is one of the record's: bytes 8 to 39 or, with mask bit 1, bytes 72 to 103
 abbrev pub Recorded : List ℕ → List ℕ → Type 0
-Recorded rec d = (d ≡ fieldOf firstField rec) ⊎ ((secondAllowed rec ≡ true) × (d ≡ fieldOf secondField rec))
+Recorded rec d = (d ≡ fieldOf firstDigestField rec) ⊎ ((hasSecond (numberIn maskField rec) ≡ true) × (d ≡ fieldOf secondDigestField rec))
 
 -- a program of this digest may start: type 0 allows the built-in digest only, types 2, 3 and 5 those of the record, and types 1 and 4 any
 pub record Allowed (rec builtIn d : List ℕ) : Type 0 where
@@ -122,5 +118,5 @@ pub record Starting (rec builtIn : List ℕ) (m : ℕ) (received : List ℕ) : T
   -- those with endpoint 2 load, and all blocks have come
   pub loading : Loads m (own (before ++ last ∷ []))
   pub enough : length (loading .blocks) ≡ needed loading
-  -- where there are allowed digests, the first n bytes carried have one of them
+  -- the digest of the first n bytes carried is allowed
   pub allowed : Allowed rec builtIn (digestOf (loading .load) (loading .blocks))

@@ -5,15 +5,12 @@ use native.Mathlib.Omega.{arith}
 use lib.ListN.{getD}
 use borrow.Author.Needs.{needs}
 use Rattle.abi.specs.Layout.{stateIn}
+use Rattle.abi.proofs.RoundTrip.{low}
 use Rattle.abi.proofs.layout.read.Statement.{statement}
 use Rattle.abi.proofs.layout.read.Tie as tie
 
 cast-t13 : tie.Need-cast-t13
 cast-t13 c = omega (arith, c .shared-slice-known6 .given 0)
-
--- the flag of weight 1
-low : (k : ℕ) → k / 1 ≡ k
-low k = omega arith
 
 returns : tie.Need-returns
 unfolding stateIn

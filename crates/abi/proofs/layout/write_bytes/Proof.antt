@@ -10,8 +10,9 @@ use Rattle.abi.proofs.layout.write_bytes.Tie as tie
 body : (z : tie.Start) → length (z .args .s .incoming .body) ≡ 128
 body z = search (needs, z .good .0)
 
-first : (z : tie.Start) → length (z .args .s .config .digests .first) ≡ 32
-first z = search (needs, z .good .0 .1 .1 .1 .0 .1 .1 .1 .1 .1 .0)
+-- what is known of the allowed digests is too far in for `search` to find
+digests : (z : tie.Start) → (length (z .args .s .config .digests .first) ≡ 32) × (length (z .args .s .config .digests .second) ≡ 32)
+digests z = let d = z .good .0 .1 .1 .1 .0 .1 .1 .1 .1 .1 .0 in (search (needs, d), search (needs, d))
 
 measured : (z : tie.Start) → length (z .args .s .config .«measured_id») ≡ 32
 measured z = search (needs, z .good .0)
@@ -22,11 +23,8 @@ udi z = search (needs, z .good .0)
 uss : (z : tie.Start) → length (z .args .s .progress .uss) ≡ 32
 uss z = search (needs, z .good .0)
 
-second : (z : tie.Start) → length (z .args .s .config .digests .second) ≡ 32
-second z = search (needs, z .good .0 .1 .1 .1 .0 .1 .1 .1 .1 .1 .0)
-
 sized : (z : tie.Start) → Sized (z .args .s)
-sized z = record { body = body z; first = first z; measured = measured z; udi = udi z; uss = uss z; second = second z }
+sized z = record { body = body z; first = digests z .0; measured = measured z; udi = udi z; uss = uss z; second = digests z .1 }
 
 returns : tie.Need-returns
 returns c =
