@@ -14,7 +14,7 @@ from elf import Elf
 TOP = Path(__file__).resolve().parent.parent
 sys.path.insert(0, str(TOP / "tests"))
 import items
-from head import headlog
+from head import blake2s, headlog
 
 # What the proved head may take at most. TKey has 8,192 bytes of ROM, and 3,000 of stack.
 MOST = {
@@ -39,6 +39,13 @@ FRAMES = [items.frame(b"\x01"), PASSED_OVER, items.load(0, frame_id=1), items.lo
 SESSION = items.record(4) + items.UDS + items.UDI + b"".join(FRAMES)
 
 
+def changeover(mask):
+    """The same on a record of type 5 whose second digest is the program's: not traced, so that the peer in C is held to the rule."""
+    record = bytearray(items.record(5))
+    record[4], record[72:104] = mask, blake2s(PROGRAM)
+    return bytes(record) + SESSION[len(record) :]
+
+
 def byte_kinds():
     """What is measured at each gathered byte."""
     for f in FRAMES:
@@ -60,14 +67,21 @@ def one_by_one():
     return next((word.decode() for word in words if word in (b"-one-insn-per-tb", b"-singlestep")), "-singlestep")
 
 
+def played(folder, command, session):
+    """Ends the run unless the session prints what the independent head does."""
+    done = subprocess.run(command, input=session, capture_output=True)
+    if done.stdout.decode().splitlines() != headlog(session)[0]:
+        sys.exit(f"firmware: {folder}/session does not print what tests/head.py says; tests/firmware.py shows more")
+
+
 def traced(folder):
     """The address of each instruction that a session executes."""
     with tempfile.TemporaryDirectory() as at:
         log = Path(at) / "log"
         command = [EMULATOR, one_by_one(), "-d", "nochain,exec", "-D", log, folder / "session"]
-        done = subprocess.run(command, input=SESSION, capture_output=True)
-        if done.stdout.decode().splitlines() != headlog(SESSION)[0]:
-            sys.exit(f"firmware: {folder}/session does not print what tests/head.py says; tests/firmware.py shows more")
+        played(folder, command, SESSION)
+        for mask in (2, 1):
+            played(folder, [EMULATOR, folder / "session"], changeover(mask))
         with open(log, "rb") as lines:
             return [int(m[1], 16) for m in map(TRACED.match, lines) if m]
 

@@ -168,7 +168,7 @@ enum {
  *               164 to 195    measured_id
  *               196 to 203    the UDI
  *               204 to 235    the user secret (USS)
- *               236 to 267    the second allowed digest; from begin on zeros where there is none
+ *               236 to 267    the second allowed digest; begin leaves zeros if there is none
  *
  * Memory with another number in byte 130 or 131 holds no state. docs/STATES.md has the ranges. Memory that
  * a begin has written, which was not refused, and that gather and act alone have changed since, is never
@@ -189,7 +189,8 @@ enum {
  *
  * The reset record has 256 bytes: 0 to 3 the type, 4 to 7 the mask, both lowest byte first; 8 to 39 the
  * first allowed digest, 40 to 71 measured_id, and, if mask bit 1 is set, 72 to 103 the second allowed
- * digest; the rest is not read. Mask bit 0 is RESET_SEED, and bits 2 to 31 are ignored.
+ * digest; the rest is not read. Mask bit 0 is RESET_SEED, and bits 2 to 31 are ignored. Types 2, 3 and 5
+ * allow the record's digests, type 0 the one that is built in, and types 1 and 4 any.
  *
  * The device secret (UDS) is eight words, each four of its bytes, lowest first: where its first byte is
  * 0x11, the lowest byte of uds[0] is. It is read only at a start, and each word is 0 after it. What a call

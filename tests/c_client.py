@@ -42,7 +42,7 @@ KINDS = {
     "differing": [f"in {what}" for what in DIFFERENCES],
     "disagreeing": ["with bit 2 alone", "with the status byte alone"],
     "taken": ["with status 0", "with status 1", "with a digest"],
-    "headlog": ["started", "had no RAM for it", "stopped with 25"],
+    "headlog": ["started, first", "had no RAM for it, first", "started, second", "stopped with 25, bit clear", "stopped with 25, neither"],
 }
 
 
@@ -197,11 +197,13 @@ def frames(seen, program, id, secret, uss):
 
 
 def load(rng, seen, headlog, size, type, secret, allowed="first"):
-    """Plays a program to a head, of which type 5 allows its digest as the first, as the second or not: what went wrong, or nothing."""
+    """Plays a program to a head, of which type 5 has its digest as the first, as the second, there with mask bit 1 clear, or not at all:
+    what went wrong, or nothing."""
     program, id, uds, udi = rng.randbytes(size), rng.randrange(4), rng.randbytes(32), rng.randbytes(8)
     digest = blake2s(program)
-    mask = rng.getrandbits(32) | 2 * (allowed == "second")
-    first, second = (digest if type == TYPE_CLIENT_VER and allowed == which else rng.randbytes(32) for which in ("first", "second"))
+    mask = {"second": rng.getrandbits(32) | 2, "bit clear": rng.getrandbits(32) & ~2, "neither": 2}.get(allowed, rng.getrandbits(32))
+    first = digest if type == TYPE_CLIENT_VER and allowed == "first" else rng.randbytes(32)
+    second = digest if allowed in ("second", "bit clear") else rng.randbytes(32)
     measured_id = rng.randbytes(32)
     record = struct.pack("<II32s32s32s", type, mask, first, measured_id, second) + rng.randbytes(152)
     sent = frames(seen, program, id, secret, rng.randbytes(32) if secret is None else secret)
@@ -212,10 +214,11 @@ def load(rng, seen, headlog, size, type, secret, allowed="first"):
     chained = mask & 1
     hashed = uds + bytes([(secret is not None) + 2 * chained]) + (measured_id if chained else digest) + (b"" if secret is None else secret)
     wanted = f"S {size} {blake2s(hashed).hex()}" if size <= PRINTER_RAM else f"W {len(sent[0])}"
-    wanted = wanted if allowed else "F 25"
+    wanted = wanted if allowed in ("first", "second") else "F 25"
     if end != wanted or len(replies) != len(sent) or done.returncode != 0 or done.stderr:
         return f"{len(replies)} replies to {len(sent)} frames, then {end!r}, expected {wanted!r}"
-    seen["headlog", {"S": "started", "W": "had no RAM for it", "F": "stopped with 25"}[end[0]]] += 1
+    came = {"S": "started", "W": "had no RAM for it", "F": "stopped with 25"}[end[0]]
+    seen["headlog", f"{came}, {allowed}"] += 1
     return misread(seen, size, id, digest, [bytes.fromhex(line.removeprefix("R ")) for line in replies])
 
 
@@ -244,7 +247,7 @@ def main(headlog):
                 print(f"c_client: program of {size} bytes, type {type}, secret {secret and secret.hex()}: {what}")
                 return 1
     for size in SIZES:
-        for allowed in ("second", None):
+        for allowed in ("second", "bit clear", "neither"):
             if what := load(rng, seen, headlog, size, TYPE_CLIENT_VER, rng.randbytes(32), allowed):
                 print(f"c_client: program of {size} bytes, allowed: {allowed}: {what}")
                 return 1

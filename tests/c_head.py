@@ -126,7 +126,7 @@ def session(calls, what, data, **head):
     Session(what, calls, waiting(**head)).send(data)
 
 
-# ---- sessions without allowed digests
+# ---- sessions in which any digest is allowed
 
 
 def client_session(calls):
@@ -155,7 +155,7 @@ def late_secret(calls):
 
 
 def longest(calls):
-    """A program of 131,072 bytes, which must have its digest, in as much RAM."""
+    """A program of 131,072 bytes, whose digest the record allows, in as much RAM."""
     program = random.Random(3).randbytes(RAM_MOST)
     s = begun(calls, "longest", record_of(5, 0, blake2s(program)), ram=RAM_MOST)
     s.send(frame(0x13, load(RAM_MOST, 1, COUNTING)), ram=RAM_MOST)
@@ -178,7 +178,7 @@ def loads(calls):
             session(calls, f"{name}, flag {flag}", frame(0x33, load(130, flag, uss)) + blocks())
 
 
-# ---- sessions with allowed digests, and chained ones
+# ---- sessions in which the digest is tested, and chained ones
 
 
 def wrong_bits(right):
@@ -316,7 +316,8 @@ def most_ram(calls):
 
 
 def flash_digests(calls):
-    """Every set of a built-in and two recorded digests: each type tests the first, the others, or none."""
+    """Every pair of a built-in and a recorded digest, and sets of the built-in and two recorded ones: each type tests the built-in one, the
+    recorded ones, or none."""
     whole = [blake2s(flash) for flash in FLASH]
     for kind in range(4):
         right = digest_of(SLOTS, kind)
@@ -501,7 +502,8 @@ def random_head(rng):
     size = rng.choice([0, 1, 100, 127, 128, 254, 255, 299, 300, 301])
     ram = rng.choice([RAM] * 20 + [0, 1, 299, RAM_MOST, RAM_MOST + 1])
     f = random_frame(rng, size)
-    head = waiting(ram=ram, verify=rng.random() < 0.5, has_second=rng.random() < 0.5, chained=rng.random() < 0.5, frame=f, udi=rng.randbytes(8))
+    verify, has_second, chained = (rng.random() < 0.5 for _ in range(3))
+    head = waiting(ram=ram, verify=verify, has_second=has_second, chained=chained, frame=f, udi=rng.randbytes(8))
     head.phase = rng.choice(["waiting"] * 4 + ["loading"] * 6 + ["started", "stopped"])
     if head.phase == "loading" or rng.random() < 0.1:
         head.size, head.block = rng.choice([1, 127, 128, 255, 300, size]), rng.choice([0, 0, 1, 2, 3, 2**32 - 1])
@@ -532,13 +534,15 @@ def random_calls(calls):
         hears = rng.random() < 0.6
         if rng.random() < 0.5:
             digest = measured(head, bytes(head.frame.body[:-1]) + bytes([byte]) if hears else head.frame.body)
-            setattr(head, rng.choice(["first", "second"]) if head.has_second else "first", digest)
+            setattr(head, rng.choice(["first", "first", "second"]), digest)
         s = Session(f"random call {k}", calls, head, [rng.randrange(2**32) for _ in range(8)])
         if hears:
             s.hear(byte, **loans)
         else:
             s.act(**loans)
-        calls.seen["random calls", f"verified starts, {head.has_second + 1} allowed"] += head.verify and s.answer.kind == "S"
+        if head.verify and s.answer.kind == "S":
+            which = "first" if s.answer.digest == head.first else "second"
+            calls.seen["random calls", f"start by the {which}, bit {head.has_second:d}"] += 1
 
 
 # ---- memory of any bytes
@@ -630,7 +634,10 @@ def random_lists(calls):
         if k % 2:
             s.memory["ram"] = rng.randbytes(RAM)
         in_any_order(rng, s, random_data(rng, size))
-        calls.seen["lists", PHASES[s.memory["bytes"][130]]] += 1
+        phase = PHASES[s.memory["bytes"][130]]
+        calls.seen["lists", phase] += 1
+        if kind == 5 and mask & 2 and one != two and phase == "started":
+            calls.seen["lists", "started by the second"] += two == blake2s(PROGRAM[:size])
 
 
 # What must come up, so that agreement says something.
@@ -641,11 +648,11 @@ KINDS = {
     "gather": GATHERS,
     "act": ACTS,
     "random begins": [f"{answer} of type {kind}" for kind in range(4) for answer in "SF"],
-    "random calls": ["verified starts, 1 allowed", "verified starts, 2 allowed"],
+    "random calls": ["start by the first, bit 0", "start by the first, bit 1", "start by the second, bit 1"],
     "memory": ["no state", "out of range"],
     "gather on any memory": GATHERS,
     "act on any memory": ACTS,
-    "lists": PHASES,
+    "lists": [*PHASES, "started by the second"],
     "gather in lists": GATHERS,
     "act in lists": ACTS,
 }

@@ -23,7 +23,7 @@ import built
 import simulate
 from head import PREFIX, PRINTER_RAM, RAM_MOST, ZEROS, blake2s
 from reasons import blocks, frame, kinds, load, missing_kinds, others, reason_of, reasons, record_of
-from sessions import STOPPING_TYPES, session
+from sessions import BITS, STOPPING_TYPES, session
 from simulate import Wrong, child, ended_by, expect, written
 
 TOP = Path(__file__).resolve().parent.parent
@@ -34,7 +34,7 @@ DIAGNOSE = TOP / "diagnose"
 PROGRAM = TOP / "target" / "bin" / "diagnose"
 STORED = TOP / "crates" / "diagnose"
 SECONDS = 30
-SESSIONS = range(200, 900)  # seeds; those below 256 have one bit of the digest wrong
+SESSIONS = range(BITS - 56, BITS + 644)  # seeds; those below BITS have one bit of a digest wrong
 PARTS = 65536  # what the program reads at once
 
 # README's words of each stop, and what to look at.
@@ -237,7 +237,7 @@ def few_bytes(rng):
 def types(rng):
     for kind in [*range(10), *STOPPING_TYPES, *(rng.getrandbits(32) for _ in range(10))]:
         for digests in ((ZEROS,), (blake2s(DESIGN),), (ZEROS, blake2s(DESIGN)), (blake2s(DESIGN), ZEROS), (ZEROS, ZEROS)):
-            yield f"type {kind}", record_of(kind, *digests), RAM_MOST, STARTED
+            yield f"type {kind}, digests {[d.hex()[:8] for d in digests]}", record_of(kind, *digests), RAM_MOST, STARTED
     yield "the second right, the bit clear", record_of(5, ZEROS, blake2s(DESIGN), mask=0xFFFFFFFD), RAM_MOST, STARTED
 
 
@@ -544,12 +544,12 @@ def usage(folder):
 
 
 def readme(folder):
-    """README's example: the sample on a record that requires another digest; and its exit statuses."""
+    """README's example: the sample on a record that allows two others; and its exit statuses."""
     section = (TOP / "README.md").read_text().split("## Why did the loom not start?")[1].split("\n## ")[0]
     lines = re.findall(r"^    (?!\$)(.*\n)", section, re.M)
     program = (TOP / "sample" / "program.bin").read_bytes()
     inside = Path(tempfile.mkdtemp(dir=folder))
-    record = written(inside, "record.bin", record_of(5, blake2s(b"other")))
+    record = written(inside, "record.bin", record_of(5, blake2s(b"the old design"), blake2s(b"the new design")))
     capture = written(inside, "capture.bin", after(load(len(program), 0), *blocks(program, 0x13)))
     expect("the example", run(record, capture), (0, "".join(lines), ""))
     expect("exit statuses", [int(number) for number in re.findall(r"^\| ([0-9]+) \|", section, re.M)], list(STATUSES))

@@ -119,7 +119,7 @@ SAMPLE_PROGRAM = b"".join(f"thread {i:03} to hook {(7 * i + 3) % 400:03}\n".enco
 
 
 def sample():
-    """A head that requires a digest: queries, a frame that is passed over, a load with a user secret, and a start."""
+    """A head that allows one digest: queries, a frame that is passed over, a load with a user secret, and a start."""
     program = SAMPLE_PROGRAM
     received = [
         frame(b"\x01"),

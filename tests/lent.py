@@ -42,12 +42,12 @@ class Difference(Exception):
 def state_in(numbers, data):
     """The head that memory holds, or nothing."""
     ram, size, block = struct.unpack("<3I", numbers)
-    body, header, got, phase, flags, digest, measured_id, udi, uss, second = struct.unpack(STATE, data)
+    body, header, got, phase, flags, first, measured_id, udi, uss, second = struct.unpack(STATE, data)
     if phase > 3 or flags > 15:
         return None
     frame = Frame(header, got, bytearray(body))
     verify, chained, uss_used, has_second = (flags & bit != 0 for bit in (1, 2, 4, 8))
-    config = verify, digest, second, has_second, chained, measured_id
+    config = verify, first, second, has_second, chained, measured_id
     return Head(ram, udi, *config, PHASES[phase], size, block, uss, uss_used, frame)
 
 

@@ -96,7 +96,8 @@ STOPS = [f"stopped {k} while {phase}" for k in (22, 23, 24) for phase in ("waiti
 OPEN = ["unfinished while waiting", "unfinished while loading", "unfinished for another endpoint", "waiting", "waiting, and no byte came"]
 OPEN += ["missing 1", "missing 2", "missing 3 or more"]
 ENDS = ["started, type 4", "started, type 5", "bytes after a start", "bytes after a stop"]
-DIGESTS = ["started by the second digest", "stopped by both digests", "stopped, the second right and mask bit 1 clear"]
+DIGESTS = ["started by the first of two", "started by the second of two", "started by the only one"]
+DIGESTS += ["stopped, neither of two", "stopped, the second right and mask bit 1 clear", "stopped, not the only one"]
 KINDS = ["refused 6", "refused 7", "refused 48", *STOPS, *OPEN, *ENDS, *DIGESTS]
 
 
@@ -121,11 +122,18 @@ def kinds(reason, record, capture):
 
 
 def digest_kinds(reason, record):
-    two, is_second = number(record[4:8]) & 2 != 0, reason.digest == record[72:104]
-    if reason.kind == "started" and number(record[:4]) == 5 and two and reason.digest != record[8:40]:
-        yield "started by the second digest"
-    if reason.kind == "stopped" and reason.number == 25 and (two or is_second):
-        yield "stopped by both digests" if two else "stopped, the second right and mask bit 1 clear"
+    """Of a start by type 5, and of stop 25."""
+    two = number(record[4:8]) & 2 != 0
+    if reason.kind == "started" and number(record[:4]) == 5:
+        if not two:
+            yield "started by the only one"
+        else:
+            yield "started by the first of two" if reason.digest == record[8:40] else "started by the second of two"
+    if reason.kind == "stopped" and reason.number == 25:
+        if two:
+            yield "stopped, neither of two"
+        else:
+            yield "stopped, the second right and mask bit 1 clear" if reason.digest == record[72:104] else "stopped, not the only one"
 
 
 def missing_kinds(seen):

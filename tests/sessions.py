@@ -239,8 +239,8 @@ def short(rng, s):
 
 
 HARMLESS = [queries, bad_sizes, bad_flags, others, tail]
-HARMFUL = [stopping_type, flagged, wrong_digests, second_without_bit, header_bit, other_byte, dropped_byte, doubled_byte, other_length, dropped_frame]
-HARMFUL += [swapped_command, unknown, too_early, too_late, wrong_length, wrong_block_length, noise, cut, short]
+HARMFUL = [stopping_type, flagged, wrong_digests, second_without_bit, header_bit, other_byte, dropped_byte, doubled_byte, other_length]
+HARMFUL += [dropped_frame, swapped_command, unknown, too_early, too_late, wrong_length, wrong_block_length, noise, cut, short]
 HARMFUL += [stopping_type, cut]
 
 

@@ -227,7 +227,7 @@ def flash_other_digest(folder):
 
 
 def flash_changeover(folder):
-    """Of the two programs either may be the one in the slot; type 0 takes no other."""
+    """Of the two programs either may be the one in the slot."""
     program = b"a program in flash"
     path, other, third = (written(folder, f"changeover {k}", data) for k, data in enumerate([program, b"other", b"third"]))
     for kind in (2, 3):
@@ -319,12 +319,8 @@ BAD = [
     "--slot1",
     "--slot $0",
     "--require 'no such file'",
-    "--or-require $0",
     "--require $0 --or-require",
     "--require $0 --or-require 'no such file'",
-    "--type 0 --require $0 --or-require $0",
-    "--type 1 --or-require $0",
-    "--type 4 --or-require $0",
     "--require /",
     "--require",
     "--ram 0",
@@ -337,6 +333,23 @@ BAD = [
     f"--mea {'00' * 32}",
     "program",
 ]
+
+
+# What is said of a second program that the head does not take.
+SECOND = {
+    "--or-require $0": "--or-require is a second program: give --require PROGRAM too",
+    "--type 5 --or-require $0": "--or-require is a second program: give --require PROGRAM too",
+    "--type 0 --or-require $0": "type 0 takes its built-in program only: leave --or-require out, or say --type 2",
+    "--type 0 --require $0 --or-require $0": "type 0 takes its built-in program only: leave --or-require out, or say --type 2",
+    "--type 1 --or-require $0": "type 1 takes any program: leave --or-require out, or say --type 3",
+    "--type 4 --require $0 --or-require $0": "type 4 takes any program: leave --require and --or-require out, or say --type 5",
+}
+
+
+def second_refused(folder):
+    for words, why in SECOND.items():
+        done = subprocess.run(["sh", "-c", f'exec "$0" {words}', SIMULATE], stdin=subprocess.DEVNULL, capture_output=True, timeout=SECONDS)
+        expect(words, (done.returncode, done.stdout, done.stderr.decode()), (2, b"", f"simulate: {why}; see ./simulate --help\n"))
 
 
 def one_line(status, words):
@@ -442,7 +455,7 @@ def cases():
     for case in (no_room, opened_often, read_late, never_read, other_digest, changeover, stops_while_loading, terminal_start, terminal_stop):
         yield case.__name__, case
     yield from flash_cases()
-    for case in (readme, readme_flash, usage, elsewhere, dies):
+    for case in (readme, readme_flash, usage, second_refused, elsewhere, dies):
         yield case.__name__, case
     yield "not built", not_built("simulate")
     yield "SIGTERM", ended(signal.SIGTERM)
