@@ -1,4 +1,4 @@
-// The head for C, and for whatever calls C: begin, gather and act over a state in memory that the caller lends. include/mastfrap.h has the
+// The head for C, and for whatever calls C: begin, gather and act over a state in memory that the caller lends, and reset. include/mastfrap.h has the
 // calls and what the caller vouches for; specs/Layout.antt says which memory is which state, specs/Calls.antt what each call answers and leaves.
 mod gathering;
 mod layout;
@@ -7,6 +7,7 @@ ghost use mathlib.Core.Path.{_≡_};
 ghost use mathlib.Core.Bool.{true, false};
 ghost use Rattle.head.specs.Answers.{reportOf};
 ghost use Rattle.head.specs.Begin.{flashOf};
+ghost use Rattle.handover.specs.Reset.{nextOf, handedOver, resetting};
 ghost use Rattle.abi.specs.Layout.{lent};
 ghost use Rattle.abi.specs.Calls.{answerNumber, startOf, isRefused, startIn, gatherTold, gatherCall, beginTold, beginCall, actTold, actCall};
 use loader::Answer;
@@ -164,4 +165,22 @@ pub extern "C" fn mastfrap_act(
     let d = r.digest;
     give(answer, c, d, start, cdi, digest);
     number
+}
+
+// reset.
+#[no_mangle]
+pub extern "C" fn mastfrap_reset(
+    cdi: &mut [u8],
+    seed: &[u8],
+    next_type: u32,
+    mask: u32,
+    first: &[u8; 32],
+    second: &[u8; 32],
+    data: &[u8],
+    record: &mut [u8],
+) -> u32
+    ensures { λ r. ⌜ handedOver r (now (cdi .exit)) (now («record» .exit)) ≡ resetting (now (cdi .entry)) (now (seed .entry)) (nextOf «next_type» mask (now (first .entry)) (now (second .entry)) (now («data» .entry))) (now («record» .entry)) ⌝ }
+{
+    let answer = handover::reset(cdi, seed, next_type, mask, *first, *second, data, record);
+    handover::answer_number(answer)
 }
