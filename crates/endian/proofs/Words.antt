@@ -1,12 +1,12 @@
--- The bytes of words: how many there are, their front, and a turn of the loop that writes them.
+-- The bytes of words: how many there are, their front, a turn of the loop that writes them, and the word that they give.
 use mathlib.Core.Path.{_≡_, refl, ap}
-use mathlib.Core.List.{List, _∷_, _++_}
-use Prim.Native.Nat.{ℕ, zero, suc, _+_, _/_, _%_, _<_, _≤_}
+use mathlib.Core.List.{List, [], _∷_, _++_}
+use Prim.Native.Nat.{ℕ, zero, suc, _+_, _*_, _/_, _%_, _^_, _<_, _≤_}
 use native.Mathlib.Nat.{le-of-suc-le-suc}
 use native.Mathlib.Omega.{arith}
 use lib.ListN.{length, getD, set, take, drop}
 use Rattle.endian.specs.Lists.{each}
-use Rattle.endian.specs.Endian.{byteOf, firstBytes}
+use Rattle.endian.specs.Endian.{word, byteOf, firstBytes}
 use Rattle.endian.proofs.Lists.{length-each, getD-each, copy-more}
 
 pub bytes-length : (n : ℕ) (ws : List ℕ) → length (firstBytes n ws) ≡ n
@@ -30,3 +30,19 @@ bytes-more n ws out i ho hi =
     let f : ℕ → ℕ = λ i. byteOf (getD ws (i / 4) 0) (i % 4) in
     let l : i < length (each n f) = rw length-each hi in
     rw (← getD-each n f 0 i hi) (copy-more out (each n f) i ho l)
+
+-- a word below 2^32 is its four bytes
+pub rebuilt : (x : ℕ) → x < 4294967296 → x ≡ x / 1 % 256 + 256 * (x / 256 % 256) + 65536 * (x / 65536 % 256) + 16777216 * (x / 16777216 % 256)
+rebuilt x h =
+    let a : x / 256 / 256 ≡ x / 65536 = omega arith in
+    let b : x / 65536 / 256 ≡ x / 16777216 = omega arith in
+    let c : x / 16777216 % 256 ≡ x / 16777216 = omega arith in
+    let d : x / 65536 ≡ x / 65536 % 256 + 256 * (x / 16777216) = omega arith in
+    let e : x / 256 ≡ x / 256 % 256 + 256 * (x / 65536) = omega arith in
+    let f : x ≡ x / 1 % 256 + 256 * (x / 256) = omega arith in
+    omega arith
+
+-- and the number that these bytes give is the word
+pub word-back : (x : ℕ) → x < 2 ^ 32 → word (firstBytes 4 (x ∷ [])) 0 ≡ x
+unfolding word firstBytes
+word-back x h = let r = rebuilt x h in omega arith

@@ -43,7 +43,7 @@ same-type : (x y : ResetType) → typeNumber x ≡ typeNumber y → x ≡ y
 same-type x y e = sym (type-back x) ∙ ap typeWith e ∙ type-back y
 
 -- the part of n bytes after p
-after : (p s rest : List ℕ) (a n : ℕ) → length p ≡ a → length s ≡ n → take n (drop a (p ++ s ++ rest)) ≡ s
+pub after : (p s rest : List ℕ) (a n : ℕ) → length p ≡ a → length s ≡ n → take n (drop a (p ++ s ++ rest)) ≡ s
 after p s rest a n e l = rw (append-assoc p s rest, drop-at p (s ++ rest) a e) (take-at s rest n l)
 
 -- a field within p

@@ -23,6 +23,7 @@ use Rattle.protocol.specs.declared.Load.{Load}
 use Rattle.client.specs.Frames.{commandHeader, sizeBytes, loadBody, blockBody}
 use Rattle.client.proofs.Proved.{client}
 use Rattle.client.specs.declared.Secret.{Secret}
+use Rattle.endian.proofs.Words.{rebuilt}
 use Rattle.session.specs.Reading.{Good, own, GoodLoad, BlockFrame, carried, programOf}
 use Rattle.session.specs.Reading as shape
 use Rattle.session.specs.Session.{Reset}
@@ -31,7 +32,6 @@ use Rattle.session.proofs.Resets.{ReadsOn, AllowedOn}
 use Rattle.session.proofs.Frames.{All-append, own-more}
 use Rattle.session.proofs.Gathering.{length-snoc}
 use Rattle.session.proofs.Shapes.{carried-snoc}
-use Rattle.session.proofs.Strings.{rebuilt}
 
 -- the four bytes of a size
 size-is : (n : ℕ) → n < 4294967296 → word (sizeBytes n) 0 ≡ n

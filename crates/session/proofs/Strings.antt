@@ -10,7 +10,7 @@ use lib.Seq.{ext-getD}
 use Rattle.rfc7693.specs.Rfc7693.{initial, compressions, compressed, blake2s}
 use Rattle.endian.specs.Endian.{bytes, firstBytes}
 use Rattle.endian.proofs.Lists.{getD-each}
-use Rattle.endian.proofs.Words.{bytes-length}
+use Rattle.endian.proofs.Words.{bytes-length, rebuilt}
 use Rattle.head.proofs.Ranges.{never, by-test}
 use Rattle.protocol.specs.Commands.{loadIn}
 use Rattle.cdi.specs.Cdi.{domainOf, cdiString}
@@ -29,17 +29,6 @@ byte-of h k j l n =
     getD-each 32 (λ i. getD h (i / 4) 0 / 2 ^ (8 * (i % 4)) % 2 ^ 8) 0 (4 * k + j) (omega arith)
     ∙ ap (λ (x : ℕ). getD h x 0 / 2 ^ (8 * ((4 * k + j) % 4)) % 2 ^ 8) a
     ∙ ap (λ (x : ℕ). getD h k 0 / 2 ^ (8 * x) % 2 ^ 8) b
-
--- a word below 2^32 is its four bytes
-pub rebuilt : (x : ℕ) → x < 4294967296 → x ≡ x / 1 % 256 + 256 * (x / 256 % 256) + 65536 * (x / 65536 % 256) + 16777216 * (x / 16777216 % 256)
-rebuilt x h =
-    let a : x / 256 / 256 ≡ x / 65536 = omega arith in
-    let b : x / 65536 / 256 ≡ x / 16777216 = omega arith in
-    let c : x / 16777216 % 256 ≡ x / 16777216 = omega arith in
-    let d : x / 65536 ≡ x / 65536 % 256 + 256 * (x / 16777216) = omega arith in
-    let e : x / 256 ≡ x / 256 % 256 + 256 * (x / 65536) = omega arith in
-    let f : x ≡ x / 1 % 256 + 256 * (x / 256) = omega arith in
-    omega arith
 
 four-bytes : (x y : ℕ) → x < 4294967296 → y < 4294967296 → x / 1 % 256 ≡ y / 1 % 256 → x / 256 % 256 ≡ y / 256 % 256 → x / 65536 % 256 ≡ y / 65536 % 256
     → x / 16777216 % 256 ≡ y / 16777216 % 256 → x ≡ y

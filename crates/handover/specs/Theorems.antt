@@ -1,0 +1,105 @@
+-- What is proved about a reset besides its promise: when it is accepted, what then stands in each field of the record, and what begin reads there.
+-- The proof is `handovers` in proofs/Proved.antt.
+use Prim.Native.Nat.{ℕ, _^_, _<_, _≤_}
+use mathlib.Core.Path.{_≡_}
+use mathlib.Core.Logic.{_↔_}
+use mathlib.Core.Bool.{true, cond}
+use mathlib.Core.Option.{some}
+use mathlib.Core.List.{List, [], _∷_, _++_}
+use lib.ListN.{length}
+use Rattle.endian.specs.Lists.{zeros}
+use Rattle.record.specs.Record.{typeField, maskField, firstDigestField, measuredIdField, secondDigestField, dataField, fieldOf, numberIn, Contents, resetSeed, hasSecond, recordAt}
+use Rattle.handover.specs.Reset.{numberOf, Next, nextOf, written, handedOver, resetting}
+use Rattle.handover.specs.declared.Answer.{Answer}
+
+-- a request that can be written. That the numbers have 32 bits, and a digest 32 bytes, is their type in the code
+pub record Fitting (x : Next) : Type 0 where
+  pub known : x .type ≤ 5
+  pub mask-word : x .mask < 2 ^ 32
+  pub first-length : length (x .first) ≡ 32
+  pub second-length : length (x .second) ≡ 32
+  pub data-length : length (x .appData) ≡ dataField (hasSecond (x .mask)) .size
+
+-- what stands in the record, field by field
+pub record Fields (x : Next) (measuredId rec : List ℕ) : Type 0 where
+  pub size : length rec ≡ 256
+  pub type : numberIn typeField rec ≡ x .type
+  pub mask : numberIn maskField rec ≡ x .mask
+  pub first : fieldOf firstDigestField rec ≡ x .first
+  pub measured : fieldOf measuredIdField rec ≡ measuredId
+  pub second : hasSecond (x .mask) ≡ true → fieldOf secondDigestField rec ≡ x .second
+  pub placed : fieldOf (dataField (hasSecond (x .mask))) rec ≡ x .appData
+
+-- what the loader reads of it: type, mask bits 0 and 1, the digests and measured_id, as they were asked for
+abbrev pub asked : Next → List ℕ → Contents
+asked x measuredId =
+    record {
+      type = some (x .type);
+      resetSeed = resetSeed (x .mask);
+      digests =
+          record {
+            first = x .first;
+            second = cond (hasSecond (x .mask)) (x .second) (zeros 32);
+            «has_second» = hasSecond (x .mask);
+          };
+      measuredId = measuredId;
+    }
+
+-- four lists of 32 bytes, in which no byte comes twice
+unfoldable pub someCdi : List ℕ
+someCdi =
+    0x00 ∷ 0x01 ∷ 0x02 ∷ 0x03 ∷ 0x04 ∷ 0x05 ∷ 0x06 ∷ 0x07 ∷ 0x08 ∷ 0x09 ∷ 0x0a ∷ 0x0b ∷ 0x0c ∷ 0x0d ∷ 0x0e ∷ 0x0f ∷
+    0x10 ∷ 0x11 ∷ 0x12 ∷ 0x13 ∷ 0x14 ∷ 0x15 ∷ 0x16 ∷ 0x17 ∷ 0x18 ∷ 0x19 ∷ 0x1a ∷ 0x1b ∷ 0x1c ∷ 0x1d ∷ 0x1e ∷ 0x1f ∷ []
+
+unfoldable pub someSeed : List ℕ
+someSeed =
+    0x20 ∷ 0x21 ∷ 0x22 ∷ 0x23 ∷ 0x24 ∷ 0x25 ∷ 0x26 ∷ 0x27 ∷ 0x28 ∷ 0x29 ∷ 0x2a ∷ 0x2b ∷ 0x2c ∷ 0x2d ∷ 0x2e ∷ 0x2f ∷
+    0x30 ∷ 0x31 ∷ 0x32 ∷ 0x33 ∷ 0x34 ∷ 0x35 ∷ 0x36 ∷ 0x37 ∷ 0x38 ∷ 0x39 ∷ 0x3a ∷ 0x3b ∷ 0x3c ∷ 0x3d ∷ 0x3e ∷ 0x3f ∷ []
+
+unfoldable pub someFirst : List ℕ
+someFirst =
+    0x40 ∷ 0x41 ∷ 0x42 ∷ 0x43 ∷ 0x44 ∷ 0x45 ∷ 0x46 ∷ 0x47 ∷ 0x48 ∷ 0x49 ∷ 0x4a ∷ 0x4b ∷ 0x4c ∷ 0x4d ∷ 0x4e ∷ 0x4f ∷
+    0x50 ∷ 0x51 ∷ 0x52 ∷ 0x53 ∷ 0x54 ∷ 0x55 ∷ 0x56 ∷ 0x57 ∷ 0x58 ∷ 0x59 ∷ 0x5a ∷ 0x5b ∷ 0x5c ∷ 0x5d ∷ 0x5e ∷ 0x5f ∷ []
+
+unfoldable pub someSecond : List ℕ
+someSecond =
+    0x60 ∷ 0x61 ∷ 0x62 ∷ 0x63 ∷ 0x64 ∷ 0x65 ∷ 0x66 ∷ 0x67 ∷ 0x68 ∷ 0x69 ∷ 0x6a ∷ 0x6b ∷ 0x6c ∷ 0x6d ∷ 0x6e ∷ 0x6f ∷
+    0x70 ∷ 0x71 ∷ 0x72 ∷ 0x73 ∷ 0x74 ∷ 0x75 ∷ 0x76 ∷ 0x77 ∷ 0x78 ∷ 0x79 ∷ 0x7a ∷ 0x7b ∷ 0x7c ∷ 0x7d ∷ 0x7e ∷ 0x7f ∷ []
+
+-- records as literal bytes, for all data d and whatever the record was before
+pub record Examples : Type 0 where
+  -- type 5, mask bits 0, 1 and 31: the BLAKE2s-256 of CDI and seed is python's, and the data begins at byte 104
+  pub chained : (d rec : List ℕ) → length d ≡ 152 → length rec ≡ 256
+      → resetting someCdi someSeed (nextOf 5 0x80000003 someFirst someSecond d) rec ≡ handedOver 0 (zeros 32) (
+      0x05 ∷ 0x00 ∷ 0x00 ∷ 0x00 ∷ 0x03 ∷ 0x00 ∷ 0x00 ∷ 0x80 ∷
+      0x40 ∷ 0x41 ∷ 0x42 ∷ 0x43 ∷ 0x44 ∷ 0x45 ∷ 0x46 ∷ 0x47 ∷ 0x48 ∷ 0x49 ∷ 0x4a ∷ 0x4b ∷ 0x4c ∷ 0x4d ∷ 0x4e ∷ 0x4f ∷
+      0x50 ∷ 0x51 ∷ 0x52 ∷ 0x53 ∷ 0x54 ∷ 0x55 ∷ 0x56 ∷ 0x57 ∷ 0x58 ∷ 0x59 ∷ 0x5a ∷ 0x5b ∷ 0x5c ∷ 0x5d ∷ 0x5e ∷ 0x5f ∷
+      0x56 ∷ 0xf3 ∷ 0x4e ∷ 0x8b ∷ 0x96 ∷ 0x55 ∷ 0x7e ∷ 0x90 ∷ 0xc1 ∷ 0xf2 ∷ 0x4b ∷ 0x52 ∷ 0xd0 ∷ 0xc8 ∷ 0x9d ∷ 0x51 ∷
+      0x08 ∷ 0x6a ∷ 0xcf ∷ 0x1b ∷ 0x00 ∷ 0xf6 ∷ 0x34 ∷ 0xcf ∷ 0x1d ∷ 0xde ∷ 0x92 ∷ 0x33 ∷ 0xb8 ∷ 0xea ∷ 0xaa ∷ 0x3e ∷
+      0x60 ∷ 0x61 ∷ 0x62 ∷ 0x63 ∷ 0x64 ∷ 0x65 ∷ 0x66 ∷ 0x67 ∷ 0x68 ∷ 0x69 ∷ 0x6a ∷ 0x6b ∷ 0x6c ∷ 0x6d ∷ 0x6e ∷ 0x6f ∷
+      0x70 ∷ 0x71 ∷ 0x72 ∷ 0x73 ∷ 0x74 ∷ 0x75 ∷ 0x76 ∷ 0x77 ∷ 0x78 ∷ 0x79 ∷ 0x7a ∷ 0x7b ∷ 0x7c ∷ 0x7d ∷ 0x7e ∷ 0x7f ∷ []
+      ++ d)
+  -- type 2, mask bits 2 to 31: measured_id is zeros, and the data begins at byte 72
+  pub direct : (d rec : List ℕ) → length d ≡ 184 → length rec ≡ 256
+      → resetting someCdi someSeed (nextOf 2 0xfffffffc someFirst someSecond d) rec ≡ handedOver 0 (zeros 32) (
+      0x02 ∷ 0x00 ∷ 0x00 ∷ 0x00 ∷ 0xfc ∷ 0xff ∷ 0xff ∷ 0xff ∷
+      0x40 ∷ 0x41 ∷ 0x42 ∷ 0x43 ∷ 0x44 ∷ 0x45 ∷ 0x46 ∷ 0x47 ∷ 0x48 ∷ 0x49 ∷ 0x4a ∷ 0x4b ∷ 0x4c ∷ 0x4d ∷ 0x4e ∷ 0x4f ∷
+      0x50 ∷ 0x51 ∷ 0x52 ∷ 0x53 ∷ 0x54 ∷ 0x55 ∷ 0x56 ∷ 0x57 ∷ 0x58 ∷ 0x59 ∷ 0x5a ∷ 0x5b ∷ 0x5c ∷ 0x5d ∷ 0x5e ∷ 0x5f ∷
+      0x00 ∷ 0x00 ∷ 0x00 ∷ 0x00 ∷ 0x00 ∷ 0x00 ∷ 0x00 ∷ 0x00 ∷ 0x00 ∷ 0x00 ∷ 0x00 ∷ 0x00 ∷ 0x00 ∷ 0x00 ∷ 0x00 ∷ 0x00 ∷
+      0x00 ∷ 0x00 ∷ 0x00 ∷ 0x00 ∷ 0x00 ∷ 0x00 ∷ 0x00 ∷ 0x00 ∷ 0x00 ∷ 0x00 ∷ 0x00 ∷ 0x00 ∷ 0x00 ∷ 0x00 ∷ 0x00 ∷ 0x00 ∷ []
+      ++ d)
+
+pub record Handovers : Type 0 where
+  -- the number settles the answer
+  pub answers : (x y : Answer) → numberOf x ≡ numberOf y → x ≡ y
+  -- a reset is accepted exactly when none of its refusals applies
+  pub accepts : (cdi seed : List ℕ) (x : Next) (rec : List ℕ)
+      → (resetting cdi seed x rec .number ≡ 0)
+      ↔ ((x .type ≤ 5) × (length rec ≡ 256) × (length cdi ≡ 32) × (length seed ≡ 32) × (length (x .appData) ≡ dataField (hasSecond (x .mask)) .size))
+  -- a refused one changes nothing
+  pub kept : (cdi seed : List ℕ) (x : Next) (rec : List ℕ) → (resetting cdi seed x rec .number ≡ 0 → ⊥)
+      → (resetting cdi seed x rec .cdi ≡ cdi) × (resetting cdi seed x rec .rec ≡ rec)
+  -- what is written stands where the table says, and is what begin reads
+  pub fields : (x : Next) (measuredId : List ℕ) → Fitting x → length measuredId ≡ 32 → Fields x measuredId (written x measuredId)
+  pub reads : (x : Next) (measuredId : List ℕ) → Fitting x → length measuredId ≡ 32 → recordAt (written x measuredId) ≡ asked x measuredId
+  pub examples : Examples
