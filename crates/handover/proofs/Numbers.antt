@@ -1,16 +1,16 @@
 -- The number of a reset by what it is given, and what it then leaves.
 use Prim.Native.Nat.{ℕ, _<_, _≤_}
 use mathlib.Core.Path.{_≡_, refl}
-use mathlib.Core.Bool.{Bool, true, false, _&&_}
+use mathlib.Core.Bool.{Bool, true, false, cond, _&&_}
 use mathlib.Core.List.{List}
 use native.Mathlib.Omega.{arith}
 use lib.Dec.{eqb}
 use lib.ListN.{length}
-use borrow.Author.Tests.{eq-eqb, ne-eqb, lt-ltb, le-ltb, eqb-true}
+use borrow.Author.Tests.{eq-eqb, ne-eqb, lt-ltb, le-ltb, eqb-true, eqb-false}
 use Rattle.endian.specs.Lists.{zeros}
 use Rattle.endian.proofs.Cases.{impossible}
 use Rattle.record.specs.Record.{dataField, hasSecond}
-use Rattle.handover.specs.Reset.{Next, measuredIdFor, written, inputsFit, handedOver, resetting}
+use Rattle.handover.specs.Reset.{Next, measuredIdFor, written, inputsFit, resetRefusal, HandedOver, handedOver, resetting}
 
 -- lengths that fit
 pub fit-lengths : (mask a b c : ℕ) → inputsFit mask a b c ≡ true → (a ≡ 32) × (b ≡ 32) × (c ≡ dataField (hasSecond mask) .size)
@@ -44,3 +44,16 @@ module _ (cdi seed : List ℕ) (x : Next) (rec : List ℕ) where
       pub by-none : fit ≡ true → resetting cdi seed x rec ≡ handedOver 0 (zeros 32) (written x (measuredIdFor (x .mask) cdi seed))
       unfolding resetting
       by-none h = rw (le-ltb 5 (x .type) t, eq-eqb (length rec) 256 r, h)
+
+-- what an accepted reset gives
+pub accepted-is : (cdi seed : List ℕ) (x : Next) (rec : List ℕ) → resetting cdi seed x rec .number ≡ 0
+    → resetting cdi seed x rec ≡ handedOver 0 (zeros 32) (written x (measuredIdFor (x .mask) cdi seed))
+unfolding resetting
+accepted-is cdi seed x rec = go (resetRefusal (x .type) (x .mask) (length rec) (length cdi) (length seed) (length (x .appData))) _ refl
+  where
+    made : HandedOver
+    made = handedOver 0 (zeros 32) (written x (measuredIdFor (x .mask) cdi seed))
+
+    go : (k : ℕ) (b : Bool) → eqb k 0 ≡ b → cond b made (handedOver k cdi rec) .number ≡ 0 → cond b made (handedOver k cdi rec) ≡ made
+    go k true p e = refl
+    go k false p e = absurd (eqb-false k 0 p e)

@@ -44,7 +44,7 @@ module _ (x : Next) (id : List ℕ) (h : Fitting x) (hi : length id ≡ 32) wher
   parts : written x id ≡ t ++ m ++ f ++ id ++ s ++ d
   unfolding written
   parts =
-      whole t m f id (x .second) d (four-length (x .type)) (four-length (x .mask)) (h .first-length) hi (h .second-length) (zeros 256) refl has (h .data-length)
+      whole t m f id (x .second) d (four-length (x .type)) (four-length (x .mask)) (h .typed .first-length) hi (h .typed .second-length) (zeros 256) refl has (h .data-length)
 
   -- from the second digest on, from measured_id, from the first digest, from the mask on
   abbrev r1 : List ℕ
@@ -71,13 +71,13 @@ module _ (x : Next) (id : List ℕ) (h : Fitting x) (hi : length id ≡ 32) wher
   at g p v rest e l n = ap (fieldOf g) (parts ∙ e) ∙ after p v rest (g .from) (g .size) l n
 
   front-is : length (t ++ m ++ f ++ id) ≡ 72
-  front-is = front-length t m f id (x .second) d (four-length (x .type)) (four-length (x .mask)) (h .first-length) hi (h .second-length)
+  front-is = front-length t m f id (x .second) d (four-length (x .type)) (four-length (x .mask)) (h .typed .first-length) hi (h .typed .second-length)
 
   pair-is : length (t ++ m) ≡ 8
   pair-is = length-append t m ∙ omega (arith, four-length (x .type), four-length (x .mask))
 
   second-length : (b : Bool) → 72 + length (cond b (x .second) []) ≡ dataField b .from
-  second-length true = omega (arith, h .second-length)
+  second-length true = omega (arith, h .typed .second-length)
   second-length false = refl
 
   before-data : length (t ++ m ++ f ++ id ++ s) ≡ dataField has .from
@@ -89,12 +89,12 @@ module _ (x : Next) (id : List ℕ) (h : Fitting x) (hi : length id ≡ 32) wher
       ∙ word-back (x .type) (omega (arith, h .known))
 
   mask-is : numberIn maskField (written x id) ≡ x .mask
-  mask-is = ap (λ (l : List ℕ). word l 0) (at maskField t m r3 from-mask (four-length (x .type)) (four-length (x .mask))) ∙ word-back (x .mask) (h .mask-word)
+  mask-is = ap (λ (l : List ℕ). word l 0) (at maskField t m r3 from-mask (four-length (x .type)) (four-length (x .mask))) ∙ word-back (x .mask) (h .typed .mask-word)
 
   second-is : has ≡ true → fieldOf secondDigestField (written x id) ≡ x .second
   second-is e =
       let q : s ≡ x .second = rw e in
-      at secondDigestField (t ++ m ++ f ++ id) s d refl front-is (ap length q ∙ h .second-length) ∙ q
+      at secondDigestField (t ++ m ++ f ++ id) s d refl front-is (ap length q ∙ h .typed .second-length) ∙ q
 
   fields : Fields x id (written x id)
   fields =
@@ -102,8 +102,8 @@ module _ (x : Next) (id : List ℕ) (h : Fitting x) (hi : length id ≡ 32) wher
         size = ap length parts ∙ length-append (t ++ m ++ f ++ id ++ s) d ∙ rw (before-data, h .data-length) (all has);
         type = type-is;
         mask = mask-is;
-        first = at firstDigestField (t ++ m) f r2 from-first pair-is (h .first-length);
-        measured = at measuredIdField (t ++ m ++ f) id r1 from-measured (length-append (t ++ m) f ∙ omega (arith, pair-is, h .first-length)) hi;
+        first = at firstDigestField (t ++ m) f r2 from-first pair-is (h .typed .first-length);
+        measured = at measuredIdField (t ++ m ++ f) id r1 from-measured (length-append (t ++ m) f ∙ omega (arith, pair-is, h .typed .first-length)) hi;
         second = second-is;
         placed = at (dataField has) (t ++ m ++ f ++ id ++ s) d [] (sym (append-nil _)) before-data (h .data-length);
       }

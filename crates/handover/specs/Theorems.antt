@@ -12,12 +12,16 @@ use Rattle.record.specs.Record.{typeField, maskField, firstDigestField, measure
 use Rattle.handover.specs.Reset.{numberOf, Next, nextOf, written, handedOver, resetting}
 use Rattle.handover.specs.declared.Answer.{Answer}
 
--- a request that can be written. That the numbers have 32 bits, and a digest 32 bytes, is their type in the code
-pub record Fitting (x : Next) : Type 0 where
-  pub known : x .type ≤ 5
+-- that the mask has 32 bits, and each digest 32 bytes, is their type in the code
+pub record Typed (x : Next) : Type 0 where
   pub mask-word : x .mask < 2 ^ 32
   pub first-length : length (x .first) ≡ 32
   pub second-length : length (x .second) ≡ 32
+
+-- a request that can be written
+pub record Fitting (x : Next) : Type 0 where
+  pub typed : Typed x
+  pub known : x .type ≤ 5
   pub data-length : length (x .appData) ≡ dataField (hasSecond (x .mask)) .size
 
 -- what stands in the record, field by field

@@ -67,7 +67,7 @@ module _ (R : Reset) where
       let b = length-facts (length (R .ram)) (a .2) in
       record { eight = a .0; record-length = a .1; ram-some = b .0; ram-small = b .1 }
 
-  not-refused : Admitted R → number ≡ 0
+  pub not-refused : Admitted R → number ≡ 0
   not-refused a =
       let m = length (R .ram) in
       rw (eq-eqb (length (R .uds)) 8 (a .eight), eq-eqb (length (R .rec)) 256 (a .record-length), le-leb 1 m (a .ram-some), le-leb m 131072 (a .ram-small))

@@ -153,7 +153,7 @@ module _ (S : Session) where
           block-whole = whole-before (ramLen S) (allOf S) table (t .loan) (t .out) (a .before) (a .after) (a .place);
         }
 
-sound : (t : AnyStart) → Sound (basis t)
+pub sound : (t : AnyStart) → Sound (basis t)
 sound (from-client S t) = carried-sound S t
 sound (from-flash R t) = let b = flash-exactly R .0 t in flash-sound R (b .0) (b .1) (b .2) (b .3)
 

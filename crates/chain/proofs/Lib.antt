@@ -1,0 +1,4 @@
+pub mod Links
+pub mod Ends
+pub mod Plans
+pub mod Proved

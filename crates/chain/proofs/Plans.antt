@@ -1,0 +1,214 @@
+-- There are chains: each plan that is possible becomes a link, whatever start is before it.
+use Prim.Native.Nat.{ℕ, zero, suc, _^_, _<_, _≤_}
+use mathlib.Core.Path.{_≡_, refl, sym, ap, _∙_, subst}
+use mathlib.Core.Logic.{_⊎_, inl, inr, ⊎-elim, ⊎-map}
+use mathlib.Core.Bool.{Bool, true, false, cond}
+use mathlib.Core.Option.{Option, none, some}
+use mathlib.Core.List.{List, [], _∷_, _++_}
+use native.Mathlib.Omega.{arith}
+use lib.Dec.{ltb, leb}
+use lib.ListN.{length}
+use borrow.Author.Tests.{ltb-true, ltb-false, leb-true, leb-false}
+use Rattle.rfc7693.specs.Rfc7693.{blake2s}
+use Rattle.endian.specs.Lists.{zeros, All, Words}
+use Rattle.record.specs.Record.{hasSecond, resetSeed}
+use Rattle.handover.specs.Reset.{Next, nextOf, mixed, written, HandedOver, resetting}
+use Rattle.handover.specs.Theorems.{Typed, Fields}
+use Rattle.handover.proofs.Numbers.{accepted-is}
+use Rattle.handover.proofs.Proved.{handovers}
+use Rattle.head.specs.Begin.{Slot}
+use Rattle.session.specs.Reading.{typeOf, Allowed}
+use Rattle.session.specs.Session.{Reset, AsksFlash, AsksClient, Admitted}
+use Rattle.session.specs.Boot.{AnyStart, from-client, from-flash, basis, userSecret, resetHolding, StartOf}
+use Rattle.session.proofs.Strings.{digest-length}
+use Rattle.session.proofs.Proved.{verified-boot}
+use Rattle.chain.specs.Chain.{givenCdi, isClient, Link, Follows, Linked}
+use Rattle.chain.specs.Theorems.{Paired, Plan, Allows, SecretFor, Possible, Carried}
+use Rattle.chain.proofs.Links.{cdi-length}
+
+pub four-or-five : (n : ℕ) → 4 ≤ n → n ≤ 5 → (n ≡ 4) ⊎ (n ≡ 5)
+four-or-five n a b = go (ltb n 5) refl
+  where
+    go : (q : Bool) → ltb n 5 ≡ q → (n ≡ 4) ⊎ (n ≡ 5)
+    go true e = let l = ltb-true n 5 e in inl (omega arith)
+    go false e = let l = ltb-false n 5 e in inr (omega arith)
+
+module _ (uds : List ℕ) (eight : length uds ≡ 8) (words : Words uds) where
+  module _ (t : AnyStart) (p : Plan) (h : Possible p) where
+    abbrev x : Next
+    x = p .next
+
+    abbrev id : List ℕ
+    id = mixed (givenCdi t) (p .seed)
+
+    abbrev rec : List ℕ
+    rec = written x id
+
+    abbrev d : List ℕ
+    d = blake2s [] (p .program) 32
+
+    fields : Fields x id rec
+    fields = handovers .fields x id (h .fitting) (digest-length (givenCdi t ++ p .seed))
+
+    -- the reset that writes it
+    accepted : resetting (givenCdi t) (p .seed) x (zeros 256) .number ≡ 0
+    accepted = handovers .accepts (givenCdi t) (p .seed) x (zeros 256) .1 (h .fitting .known, refl, cdi-length t, h .seed-length, h .fitting .data-length)
+
+    wrote : resetting (givenCdi t) (p .seed) x (zeros 256) .rec ≡ rec
+    wrote =
+        ap (λ (y : HandedOver). y .rec) (accepted-is (givenCdi t) (p .seed) x (zeros 256) accepted)
+        ∙ ap (λ (b : Bool). written x (cond b id (zeros 32))) (h .seeded)
+
+    allows : Allowed rec (p .builtIn) d
+    allows =
+        let a = h .allowed in
+        record {
+          built-in = λ e. a .built-in (sym (fields .type) ∙ e);
+          recorded = λ e.
+              ⊎-map (λ y. y ∙ sym (fields .first)) (λ y. (ap hasSecond (fields .mask) ∙ y .0, y .1 ∙ sym (fields .second (y .0))))
+              (a .recorded (rw (← fields .type) e));
+        }
+
+    -- a start on it is a link
+    linked : (s : AnyStart) → basis s .rec ≡ rec → basis s .uds ≡ uds
+        → Follows uds t (record { seed = p .seed; next = x; room = zeros 256; start = s })
+    linked s e u = record { typed = h .fitting .typed; accepted = accepted; seeded = h .seeded; on-record = e ∙ sym wrote; afresh = u }
+
+    abbrev Made : Type 0
+    Made = (l : Link) × Follows uds t l × Carried p l
+
+    made : (s : AnyStart) → basis s .rec ≡ rec → basis s .uds ≡ uds → basis s .program ≡ p .program → userSecret (basis s) ≡ p .secret
+        → isClient s ≡ leb 4 (x .type) → Made
+    made s e u q c k =
+        (record { seed = p .seed; next = x; room = zeros 256; start = s }, linked s e u, record { seed = refl; next = refl; program = q; secret = c; client = k })
+
+    some-ram : 1 ≤ length (p .ram)
+    some-ram = omega (arith, h .not-empty, h .fits)
+
+    -- from flash
+    abbrev held : Reset
+    held = resetHolding rec (p .udi) (p .builtIn) (p .ram) uds (p .program) (p .rest) (p .other) words
+
+    by-flash : leb 4 (x .type) ≡ false → p .secret ≡ none → Made
+    by-flash k c =
+        let n = leb-false 4 (x .type) k in
+        let a : Admitted held = record { eight = eight; record-length = fields .size; ram-some = some-ram; ram-small = h .ram-small } in
+        let q : typeOf rec ≤ 3 = rw (fields .type) (omega arith) in
+        let s = verified-boot .flash-exists rec (p .udi) (p .builtIn) (p .ram) uds (p .program) (p .rest) (p .other) words a q (h .not-empty) (h .fits) allows in
+        made (from-flash held (s .0)) refl refl (s .1) (sym c) (sym k)
+
+    -- by a client's session
+    abbrev lent : Reset
+    lent =
+        record {
+          rec = rec;
+          udi = p .udi;
+          flash = record { slot0 = p .other; slot1 = p .other; builtIn = p .builtIn };
+          ram = p .ram;
+          uds = uds;
+          typed = words;
+        }
+
+    by-client : leb 4 (x .type) ≡ true → (flag : Bool) (uss : List ℕ) → length uss ≡ 32 → p .secret ≡ cond flag (some uss) none → Made
+    by-client k flag uss l c =
+        let n = leb-true 4 (x .type) k in
+        let a : Admitted lent = record { eight = eight; record-length = fields .size; ram-some = some-ram; ram-small = h .ram-small } in
+        let q : AsksClient lent = rw (fields .type) (four-or-five (x .type) n (h .fitting .known)) in
+        let s = verified-boot .exists lent (p .ram) uds (p .program) flag uss a q refl eight words (h .not-empty) (h .fits) allows l in
+        made (from-client (s .session) (s .start)) (ap (λ (R : Reset). R .rec) (s .same-reset)) (s .same-uds) (s .same-program) (s .same-secret ∙ sym c) (sym k)
+
+    link : Made
+    link = go (leb 4 (x .type)) (p .secret) refl refl (h .secret)
+      where
+        go : (b : Bool) (c : Option (List ℕ)) → leb 4 (x .type) ≡ b → p .secret ≡ c → SecretFor (x .type) c → Made
+        go true none k c s = by-client k false (zeros 32) refl c
+        go true (some uss) k c s = by-client k true uss (s .1) c
+        go false none k c s = by-flash k c
+        go false (some uss) k c s = let n = leb-false 4 (x .type) k in absurd (omega (arith, s .0))
+
+  pub planned : (t : AnyStart) (ps : List Plan) → All Possible ps → (ls : List Link) × Linked uds t ls × Paired Carried ps ls
+  planned t [] h = ([], tt, tt)
+  planned t (p ∷ ps) h =
+      let m = link t p (h .0) in
+      let r = planned (m .0 .start) ps (h .1) in
+      (m .0 ∷ r .0, (m .1, r .1), (m .2, r .2))
+
+-- ---- a chain of every length: a first start, and one plan again and again
+
+-- a type that goes by no digest of the record
+unverified : {P : Type 0} (n : ℕ) → (n ≡ 2 → ⊥) → (n ≡ 3 → ⊥) → (n ≡ 5 → ⊥) → (n ≡ 2) ⊎ ((n ≡ 3) ⊎ (n ≡ 5)) → P
+unverified n a b c (inl e) = absurd (a e)
+unverified n a b c (inr (inl e)) = absurd (b e)
+unverified n a b c (inr (inr e)) = absurd (c e)
+
+abbrev none-held : Slot
+none-held = record { bytes = []; size = 0 }
+
+abbrev anything : Next
+anything = nextOf 1 0 (zeros 32) (zeros 32) (zeros 184)
+
+abbrev someRecord : List ℕ
+someRecord = written anything (zeros 32)
+
+typed : (type mask : ℕ) → mask < 2 ^ 32 → Typed (nextOf type mask (zeros 32) (zeros 32) (zeros 184))
+typed type mask m = record { mask-word = m; first-length = refl; second-length = refl }
+
+some-fields : Fields anything (zeros 32) someRecord
+some-fields = handovers .fields anything (zeros 32) (record { typed = typed 1 0 (omega arith); known = omega arith; data-length = refl }) refl
+
+zero-words : (n : ℕ) → Words (zeros n)
+zero-words zero = tt
+zero-words (suc n) = (omega arith, zero-words n)
+
+-- from slot 1, of any digest
+abbrev firstReset : Reset
+firstReset = resetHolding someRecord [] [] (zeros 1) (zeros 8) (zeros 1) [] none-held (zero-words 8)
+
+pub first : AnyStart
+first =
+    let one : typeOf someRecord ≡ 1 = some-fields .type in
+    let a : Admitted firstReset = record { eight = refl; record-length = some-fields .size; ram-some = omega arith; ram-small = omega arith } in
+    let d : Allowed someRecord [] (blake2s [] (zeros 1) 32) =
+    record { built-in = λ e. absurd (omega arith); recorded = unverified (typeOf someRecord) (λ e. omega arith) (λ e. omega arith) (λ e. omega arith) } in
+    from-flash firstReset (verified-boot .flash-exists someRecord [] [] (zeros 1) (zeros 8) (zeros 1) [] none-held (zero-words 8) a (omega arith) (omega arith) (omega arith) d .0)
+
+abbrev somePlan : Plan
+somePlan =
+    record {
+      seed = zeros 32;
+      next = nextOf 4 1 (zeros 32) (zeros 32) (zeros 184);
+      program = zeros 1;
+      secret = none;
+      udi = [];
+      builtIn = [];
+      ram = zeros 1;
+      rest = [];
+      other = none-held;
+    }
+
+possible : Possible somePlan
+possible =
+    record {
+      fitting = record { typed = typed 4 1 (omega arith); known = omega arith; data-length = refl };
+      seeded = refl;
+      seed-length = refl;
+      ram-small = omega arith;
+      not-empty = omega arith;
+      fits = omega arith;
+      allowed = record { built-in = λ e. absurd (omega arith); recorded = unverified 4 (λ e. omega arith) (λ e. omega arith) (λ e. omega arith) };
+      secret = tt;
+    }
+
+abbrev pub repeated : ℕ → List Plan
+repeated zero = []
+repeated (suc n) = somePlan ∷ repeated n
+
+pub all-possible : (n : ℕ) → All Possible (repeated n)
+all-possible zero = tt
+all-possible (suc n) = (possible, all-possible n)
+
+pub repeated-length : (n : ℕ) (ls : List Link) → Paired Carried (repeated n) ls → length ls ≡ n
+repeated-length zero [] h = refl
+repeated-length zero (l ∷ ls) h = absurd h
+repeated-length (suc n) [] h = absurd h
+repeated-length (suc n) (l ∷ ls) h = ap suc (repeated-length n ls (h .1))

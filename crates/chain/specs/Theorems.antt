@@ -1,0 +1,132 @@
+-- What is proved of chains (change request 7): begin has what the reset was asked for, the last CDI is the one worked out, what equal strings and equal CDIs
+-- mean, and that there are chains. The proof is `chains` in proofs/Proved.antt.
+use Prim.Native.Nat.{ℕ, _<_, _≤_}
+use mathlib.Core.Path.{_≡_}
+use mathlib.Core.Logic.{_⊎_}
+use mathlib.Core.Bool.{Bool, true, cond, not}
+use mathlib.Core.Option.{Option, none, some}
+use mathlib.Core.List.{List, [], _∷_}
+use lib.Dec.{eqb, leb}
+use lib.ListN.{length, getD}
+use Rattle.rfc7693.specs.Rfc7693.{blake2s}
+use Rattle.endian.specs.Lists.{zeros, All}
+use Rattle.record.specs.Record.{resetSeed, hasSecond}
+use Rattle.handover.specs.Reset.{Next, written}
+use Rattle.handover.specs.Theorems.{Fitting, asked}
+use Rattle.head.specs.Answers.{continues}
+use Rattle.head.specs.Begin.{Slot, byType}
+use Rattle.session.specs.Session.{Reset, begun, Admitted}
+use Rattle.session.specs.Boot.{Same, AnyStart, basis, userSecret}
+use Rattle.head.specs.declared.Config.{Config}
+use Rattle.chain.specs.Chain.{foldedCdi, foldedStrings, hashedStrings, givenCdi, isClient, Link, mixOf, mixes, Chain, lastStart, firstUds, firstCdi}
+
+-- ---- begin on a record that a reset wrote
+
+-- begin, where it is not refused, goes by what was asked for: it uses that and nothing else of the record
+pub record Begins (x : Next) (measuredId : List ℕ) (R : Reset) : Type 0 where
+  pub by-asked : begun R ≡ byType (asked x measuredId) (R .udi) (R .flash) (R .ram) (R .uds)
+  -- types 4 and 5: it waits for a client, and has this in its state
+  pub waits : 4 ≤ x .type → begun R .report ≡ continues
+  pub config : 4 ≤ x .type → begun R .state .config
+      ≡ record {
+        «ram_len» = length (R .ram);
+        «measured_id» = measuredId;
+        udi = R .udi;
+        digests =
+            record {
+              first = x .first;
+              second = cond (hasSecond (x .mask)) (x .second) (zeros 32);
+              «has_second» = hasSecond (x .mask);
+            };
+        verify = eqb (x .type) 5;
+        chained = resetSeed (x .mask);
+      }
+
+-- ---- two chains
+
+-- link by link
+abbrev pub Paired : {A B : Type 0} → (A → B → Type 0) → List A → List B → Type 0
+Paired P [] [] = Unit {0}
+Paired P [] (y ∷ ys) = ⊥
+Paired P (x ∷ xs) [] = ⊥
+Paired P (x ∷ xs) (y ∷ ys) = P x y × Paired P xs ys
+
+-- what demand 3's second half gives for one start
+abbrev pub SameStarts : Link → Link → Type 0
+SameStarts l l′ = Same (basis (l .start)) (basis (l′ .start))
+
+-- two different strings with one hash, at one place of these lists
+pub record Collision (xs ys : List (List ℕ)) : Type 0 where
+  pub place : ℕ
+  pub within : place < length xs
+  pub differ : getD xs place [] ≡ getD ys place [] → ⊥
+  pub same-hash : blake2s [] (getD xs place []) 32 ≡ blake2s [] (getD ys place []) 32
+
+-- all that the CDI at the end is made from
+pub record SameLine (c c′ : Chain) : Type 0 where
+  pub first-cdi : firstCdi c ≡ firstCdi c′
+  pub links : mixes (c .links) ≡ mixes (c′ .links)
+  -- a chain without a link has no UDS in it but that of its first start
+  pub uds : 1 ≤ length (c .links) → basis (c .first) .uds ≡ basis (c′ .first) .uds
+
+-- ---- there are chains
+
+-- a link as it is planned: what the reset is asked for, the program, the user secret or none, and what else the head then has: UDI, built-in digest, RAM,
+-- what stands behind the program in its slot, and the other slot
+pub record Plan : Type 0 where
+  pub seed : List ℕ
+  pub next : Next
+  pub program : List ℕ
+  pub secret : Option (List ℕ)
+  pub udi : List ℕ
+  pub builtIn : List ℕ
+  pub ram : List ℕ
+  pub rest : List ℕ
+  pub other : Slot
+
+-- the record that is asked for allows the program: type 0 has the built-in digest only, types 2, 3 and 5 those that are asked for
+pub record Allows (x : Next) (builtIn d : List ℕ) : Type 0 where
+  pub built-in : x .type ≡ 0 → d ≡ builtIn
+  pub recorded : (x .type ≡ 2) ⊎ ((x .type ≡ 3) ⊎ (x .type ≡ 5)) → (d ≡ x .first) ⊎ ((hasSecond (x .mask) ≡ true) × (d ≡ x .second))
+
+-- a program from flash has no user secret
+abbrev pub SecretFor : ℕ → Option (List ℕ) → Type 0
+SecretFor type none = Unit {0}
+SecretFor type (some uss) = (4 ≤ type) × (length uss ≡ 32)
+
+pub record Possible (p : Plan) : Type 0 where
+  pub fitting : Fitting (p .next)
+  pub seeded : resetSeed (p .next .mask) ≡ true
+  pub seed-length : length (p .seed) ≡ 32
+  pub ram-small : length (p .ram) ≤ 131072
+  pub not-empty : 1 ≤ length (p .program)
+  pub fits : length (p .program) ≤ length (p .ram)
+  pub allowed : Allows (p .next) (p .builtIn) (blake2s [] (p .program) 32)
+  pub secret : SecretFor (p .next .type) (p .secret)
+
+-- a link that is as planned; types 4 and 5 are a client's, the others from flash
+pub record Carried (p : Plan) (l : Link) : Type 0 where
+  pub seed : l .seed ≡ p .seed
+  pub next : l .next ≡ p .next
+  pub program : basis (l .start) .program ≡ p .program
+  pub secret : userSecret (basis (l .start)) ≡ p .secret
+  pub client : isClient (l .start) ≡ leb 4 (p .next .type)
+
+pub record Chains : Type 0 where
+  -- begin on a record that a reset wrote
+  pub begins : (x : Next) (measuredId : List ℕ) → Fitting x → length measuredId ≡ 32 → (R : Reset) → R .rec ≡ written x measuredId → Admitted R
+      → Begins x measuredId R
+  -- the last CDI is worked out from the first, the UDS, and seed and user secret of each link. Programs, digests, data and RAM of the links do not enter
+  pub cdi : (c : Chain) → givenCdi (lastStart c) ≡ foldedCdi (firstUds c) (firstCdi c) (mixes (c .links))
+  -- two chains, of one head or of two, whose strings are equal link by link
+  pub injective : (c c′ : Chain) → foldedStrings (firstUds c) (firstCdi c) (mixes (c .links)) ≡ foldedStrings (firstUds c′) (firstCdi c′) (mixes (c′ .links))
+      → Paired SameStarts (c .links) (c′ .links)
+  -- and, with nothing assumed of the hash, two of one length that end in one CDI: all that it is made from is the same, or here are two different strings,
+  -- hashed at the same place of the two chains, that have one hash
+  pub same-end : (c c′ : Chain) → length (c .links) ≡ length (c′ .links) → givenCdi (lastStart c) ≡ givenCdi (lastStart c′)
+      → SameLine c c′ ⊎ Collision (hashedStrings (firstUds c) (firstCdi c) (mixes (c .links))) (hashedStrings (firstUds c′) (firstCdi c′) (mixes (c′ .links)))
+  -- after every start, every list of links that is possible comes about, by client and from flash in any order
+  pub exists : (t : AnyStart) (ps : List Plan) → All Possible ps
+      → (c : Chain) × (c .first ≡ t) × Paired Carried ps (c .links)
+  -- and there is a chain of every length
+  pub lengths : (n : ℕ) → (c : Chain) × (length (c .links) ≡ n)
