@@ -1,6 +1,6 @@
 -- The end of a chain: its CDI, and what two chains share whose strings, or whose last CDIs, are equal.
-use Prim.Native.Nat.{ℕ, zero, suc, _<_, _≤_}
-use mathlib.Core.Path.{_≡_, refl, sym, ap, _∙_, subst}
+use Prim.Native.Nat.{ℕ, suc, _≤_}
+use mathlib.Core.Path.{_≡_, refl, sym, ap, _∙_}
 use mathlib.Core.Logic.{_⊎_, inl, inr, ⊎-elim}
 use mathlib.Core.Bool.{Bool, true, false}
 use mathlib.Core.Option.{Option}
@@ -8,7 +8,6 @@ use mathlib.Core.List.{List, [], _∷_, _++_, head-eq-of-cons-eq, tail-eq-of-con
 use native.Mathlib.Omega.{arith}
 use lib.ListN.{length, take, drop}
 use lib.Seq.{take-at, drop-at}
-use Rattle.rfc7693.specs.Rfc7693.{blake2s}
 use Rattle.endian.specs.Endian.{bytes}
 use Rattle.endian.specs.Lists.{same}
 use Rattle.endian.proofs.Cases.{impossible}
@@ -17,7 +16,7 @@ use Rattle.session.specs.Boot.{AnyStart, basis, startString, Same}
 use Rattle.session.proofs.Proved.{verified-boot}
 use Rattle.chain.specs.Chain.{Mix, linkString, nextCdi, foldedCdi, foldedStrings, hashedStrings, givenCdi, Link, mixOf, mixes, Follows, Linked, lastAfter}
 use Rattle.chain.specs.Theorems.{Paired, SameStarts, Collision}
-use Rattle.chain.proofs.Links.{cdi-is, cdi-length, seed-length, measurement-is, string-is, next-is}
+use Rattle.chain.proofs.Links.{cdi-is, cdi-length, measurement-is, string-is, next-is}
 
 pub folded : (uds : List ℕ) (t : AnyStart) (ls : List Link) → Linked uds t ls → givenCdi (lastAfter t ls) ≡ foldedCdi (bytes uds) (givenCdi t) (mixes ls)
 folded uds t [] h = refl

@@ -1,27 +1,24 @@
 -- One link: what its reset wrote, what begin makes of it, and the string of its start.
-use Prim.Native.Nat.{ℕ, _≤_}
-use mathlib.Core.Path.{_≡_, refl, sym, ap, _∙_}
-use mathlib.Core.Logic.{_⊎_, inl, inr}
+use Prim.Native.Nat.{ℕ}
+use mathlib.Core.Path.{_≡_, refl, ap, _∙_}
 use mathlib.Core.Bool.{Bool, true, false, cond}
 use mathlib.Core.Option.{none, some}
 use mathlib.Core.List.{List, [], _∷_, _++_, append-nil}
-use native.Mathlib.Omega.{arith}
-use lib.Dec.{eqb}
 use lib.ListN.{length}
 use Rattle.rfc7693.specs.Rfc7693.{blake2s}
 use Rattle.endian.specs.Endian.{bytes}
 use Rattle.endian.specs.Lists.{zeros}
-use Rattle.record.specs.Record.{resetSeed, recordAt}
-use Rattle.cdi.specs.Cdi.{domainOf, cdiString}
-use Rattle.handover.specs.Reset.{Next, mixed, measuredIdFor, written, HandedOver, handedOver, resetting}
-use Rattle.handover.specs.Theorems.{Typed, Fitting, Fields, asked}
+use Rattle.record.specs.Record.{resetSeed}
+use Rattle.cdi.specs.Cdi.{cdiString}
+use Rattle.handover.specs.Reset.{mixed, measuredIdFor, written, HandedOver}
+use Rattle.handover.specs.Theorems.{Fitting, Fields}
 use Rattle.handover.proofs.Numbers.{accepted-is}
 use Rattle.handover.proofs.Proved.{handovers}
 use Rattle.session.specs.Reading.{chained, measuredId}
 use Rattle.session.specs.Boot.{AnyStart, from-client, from-flash, basis, digest, startString, measurement}
 use Rattle.session.proofs.Strings.{digest-length}
 use Rattle.session.proofs.Proved.{verified-boot}
-use Rattle.chain.specs.Chain.{Mix, chainString, linkString, nextCdi, givenCdi, Link, mixOf, resetAfter, Follows}
+use Rattle.chain.specs.Chain.{chainString, linkString, nextCdi, givenCdi, Link, mixOf, Follows}
 
 -- the CDI of a start is the hash of its string
 pub cdi-is : (t : AnyStart) → givenCdi t ≡ blake2s [] (startString (basis t)) 32
@@ -30,6 +27,13 @@ cdi-is (from-flash R t) = verified-boot .flash-gives R t .start .cdi
 
 pub cdi-length : (t : AnyStart) → length (givenCdi t) ≡ 32
 cdi-length t = ap length (cdi-is t) ∙ digest-length (startString (basis t))
+
+pub measured-length : (mask : ℕ) (cdi seed : List ℕ) → length (measuredIdFor mask cdi seed) ≡ 32
+measured-length mask cdi seed = go (resetSeed mask)
+  where
+    go : (b : Bool) → length (cond b (mixed cdi seed) (zeros 32)) ≡ 32
+    go true = digest-length (cdi ++ seed)
+    go false = refl
 
 module _ (uds : List ℕ) (t : AnyStart) (l : Link) (h : Follows uds t l) where
   abbrev cdi : List ℕ

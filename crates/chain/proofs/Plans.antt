@@ -1,7 +1,7 @@
 -- There are chains: each plan that is possible becomes a link, whatever start is before it.
-use Prim.Native.Nat.{ℕ, zero, suc, _^_, _<_, _≤_}
-use mathlib.Core.Path.{_≡_, refl, sym, ap, _∙_, subst}
-use mathlib.Core.Logic.{_⊎_, inl, inr, ⊎-elim, ⊎-map}
+use Prim.Native.Nat.{ℕ, zero, suc, _≤_}
+use mathlib.Core.Path.{_≡_, refl, sym, ap, _∙_}
+use mathlib.Core.Logic.{_⊎_, inl, inr, ⊎-map}
 use mathlib.Core.Bool.{Bool, true, false, cond}
 use mathlib.Core.Option.{Option, none, some}
 use mathlib.Core.List.{List, [], _∷_, _++_}
@@ -11,20 +11,23 @@ use lib.ListN.{length}
 use borrow.Author.Tests.{ltb-true, ltb-false, leb-true, leb-false}
 use Rattle.rfc7693.specs.Rfc7693.{blake2s}
 use Rattle.endian.specs.Lists.{zeros, All, Words}
-use Rattle.record.specs.Record.{hasSecond, resetSeed}
+use Rattle.record.specs.Record.{hasSecond}
 use Rattle.handover.specs.Reset.{Next, nextOf, mixed, written, HandedOver, resetting}
 use Rattle.handover.specs.Theorems.{Typed, Fields}
 use Rattle.handover.proofs.Numbers.{accepted-is}
 use Rattle.handover.proofs.Proved.{handovers}
 use Rattle.head.specs.Begin.{Slot}
 use Rattle.session.specs.Reading.{typeOf, Allowed}
-use Rattle.session.specs.Session.{Reset, AsksFlash, AsksClient, Admitted}
-use Rattle.session.specs.Boot.{AnyStart, from-client, from-flash, basis, userSecret, resetHolding, StartOf}
+use Rattle.session.specs.Session.{Reset, AsksClient, Admitted}
+use Rattle.session.specs.Boot.{AnyStart, from-client, from-flash, basis, userSecret, resetHolding}
 use Rattle.session.proofs.Strings.{digest-length}
 use Rattle.session.proofs.Proved.{verified-boot}
-use Rattle.chain.specs.Chain.{givenCdi, isClient, Link, Follows, Linked}
-use Rattle.chain.specs.Theorems.{Paired, Plan, Allows, SecretFor, Possible, Carried}
+use Rattle.chain.specs.Chain.{givenCdi, resetOf, isClient, Link, Follows, Linked}
+use Rattle.chain.specs.Theorems.{Paired, Plan, SecretFor, Possible, Carried}
 use Rattle.chain.proofs.Links.{cdi-length}
+
+abbrev none-held : Slot
+none-held = record { bytes = []; size = 0 }
 
 pub four-or-five : (n : ℕ) → 4 ≤ n → n ≤ 5 → (n ≡ 4) ⊎ (n ≡ 5)
 four-or-five n a b = go (ltb n 5) refl
@@ -78,24 +81,24 @@ module _ (uds : List ℕ) (eight : length uds ≡ 8) (words : Words uds) where
     Made = (l : Link) × Follows uds t l × Carried p l
 
     made : (s : AnyStart) → basis s .rec ≡ rec → basis s .uds ≡ uds → basis s .program ≡ p .program → userSecret (basis s) ≡ p .secret
-        → isClient s ≡ leb 4 (x .type) → Made
-    made s e u q c k =
-        (record { seed = p .seed; next = x; room = zeros 256; start = s }, linked s e u, record { seed = refl; next = refl; program = q; secret = c; client = k })
+        → isClient s ≡ leb 4 (x .type) → resetOf s .udi ≡ p .udi → resetOf s .flash .builtIn ≡ p .builtIn → resetOf s .ram ≡ p .ram → Made
+    made s e u q c k i b r =
+        (record { seed = p .seed; next = x; room = zeros 256; start = s }, linked s e u, record { seed = refl; next = refl; program = q; secret = c; client = k; udi = i; builtIn = b; ram = r })
 
     some-ram : 1 ≤ length (p .ram)
     some-ram = omega (arith, h .not-empty, h .fits)
 
     -- from flash
     abbrev held : Reset
-    held = resetHolding rec (p .udi) (p .builtIn) (p .ram) uds (p .program) (p .rest) (p .other) words
+    held = resetHolding rec (p .udi) (p .builtIn) (p .ram) uds (p .program) [] none-held words
 
     by-flash : leb 4 (x .type) ≡ false → p .secret ≡ none → Made
     by-flash k c =
         let n = leb-false 4 (x .type) k in
         let a : Admitted held = record { eight = eight; record-length = fields .size; ram-some = some-ram; ram-small = h .ram-small } in
         let q : typeOf rec ≤ 3 = rw (fields .type) (omega arith) in
-        let s = verified-boot .flash-exists rec (p .udi) (p .builtIn) (p .ram) uds (p .program) (p .rest) (p .other) words a q (h .not-empty) (h .fits) allows in
-        made (from-flash held (s .0)) refl refl (s .1) (sym c) (sym k)
+        let s = verified-boot .flash-exists rec (p .udi) (p .builtIn) (p .ram) uds (p .program) [] none-held words a q (h .not-empty) (h .fits) allows in
+        made (from-flash held (s .0)) refl refl (s .1) (sym c) (sym k) refl refl refl
 
     -- by a client's session
     abbrev lent : Reset
@@ -103,7 +106,7 @@ module _ (uds : List ℕ) (eight : length uds ≡ 8) (words : Words uds) where
         record {
           rec = rec;
           udi = p .udi;
-          flash = record { slot0 = p .other; slot1 = p .other; builtIn = p .builtIn };
+          flash = record { slot0 = none-held; slot1 = none-held; builtIn = p .builtIn };
           ram = p .ram;
           uds = uds;
           typed = words;
@@ -115,7 +118,8 @@ module _ (uds : List ℕ) (eight : length uds ≡ 8) (words : Words uds) where
         let a : Admitted lent = record { eight = eight; record-length = fields .size; ram-some = some-ram; ram-small = h .ram-small } in
         let q : AsksClient lent = rw (fields .type) (four-or-five (x .type) n (h .fitting .known)) in
         let s = verified-boot .exists lent (p .ram) uds (p .program) flag uss a q refl eight words (h .not-empty) (h .fits) allows l in
-        made (from-client (s .session) (s .start)) (ap (λ (R : Reset). R .rec) (s .same-reset)) (s .same-uds) (s .same-program) (s .same-secret ∙ sym c) (sym k)
+        let r = s .same-reset in
+        made (from-client (s .session) (s .start)) (ap (λ (R : Reset). R .rec) r) (s .same-uds) (s .same-program) (s .same-secret ∙ sym c) (sym k) (ap (λ (R : Reset). R .udi) r) (ap (λ (R : Reset). R .flash .builtIn) r) (ap (λ (R : Reset). R .ram) r)
 
     link : Made
     link = go (leb 4 (x .type)) (p .secret) refl refl (h .secret)
@@ -133,7 +137,7 @@ module _ (uds : List ℕ) (eight : length uds ≡ 8) (words : Words uds) where
       let r = planned (m .0 .start) ps (h .1) in
       (m .0 ∷ r .0, (m .1, r .1), (m .2, r .2))
 
--- ---- a chain of every length: a first start, and one plan again and again
+-- ---- a first start
 
 -- a type that goes by no digest of the record
 unverified : {P : Type 0} (n : ℕ) → (n ≡ 2 → ⊥) → (n ≡ 3 → ⊥) → (n ≡ 5 → ⊥) → (n ≡ 2) ⊎ ((n ≡ 3) ⊎ (n ≡ 5)) → P
@@ -141,20 +145,17 @@ unverified n a b c (inl e) = absurd (a e)
 unverified n a b c (inr (inl e)) = absurd (b e)
 unverified n a b c (inr (inr e)) = absurd (c e)
 
-abbrev none-held : Slot
-none-held = record { bytes = []; size = 0 }
-
 abbrev anything : Next
 anything = nextOf 1 0 (zeros 32) (zeros 32) (zeros 184)
 
 abbrev someRecord : List ℕ
 someRecord = written anything (zeros 32)
 
-typed : (type mask : ℕ) → mask < 2 ^ 32 → Typed (nextOf type mask (zeros 32) (zeros 32) (zeros 184))
-typed type mask m = record { mask-word = m; first-length = refl; second-length = refl }
+typed : Typed anything
+typed = record { mask-word = omega arith; first-length = refl; second-length = refl }
 
 some-fields : Fields anything (zeros 32) someRecord
-some-fields = handovers .fields anything (zeros 32) (record { typed = typed 1 0 (omega arith); known = omega arith; data-length = refl }) refl
+some-fields = handovers .fields anything (zeros 32) (record { typed = typed; known = omega arith; data-length = refl }) refl
 
 zero-words : (n : ℕ) → Words (zeros n)
 zero-words zero = tt
@@ -172,43 +173,48 @@ first =
     record { built-in = λ e. absurd (omega arith); recorded = unverified (typeOf someRecord) (λ e. omega arith) (λ e. omega arith) (λ e. omega arith) } in
     from-flash firstReset (verified-boot .flash-exists someRecord [] [] (zeros 1) (zeros 8) (zeros 1) [] none-held (zero-words 8) a (omega arith) (omega arith) (omega arith) d .0)
 
-abbrev somePlan : Plan
-somePlan =
-    record {
-      seed = zeros 32;
-      next = nextOf 4 1 (zeros 32) (zeros 32) (zeros 184);
-      program = zeros 1;
-      secret = none;
-      udi = [];
-      builtIn = [];
-      ram = zeros 1;
-      rest = [];
-      other = none-held;
-    }
+-- ---- a plan for each type, seed, program and user secret: the record, and for type 0 the firmware, allows that program
 
-possible : Possible somePlan
-possible =
-    record {
-      fitting = record { typed = typed 4 1 (omega arith); known = omega arith; data-length = refl };
-      seeded = refl;
-      seed-length = refl;
-      ram-small = omega arith;
-      not-empty = omega arith;
-      fits = omega arith;
-      allowed = record { built-in = λ e. absurd (omega arith); recorded = unverified 4 (λ e. omega arith) (λ e. omega arith) (λ e. omega arith) };
-      secret = tt;
-    }
+module _ (type : ℕ) (seed program : List ℕ) (secret : Option (List ℕ)) where
+  abbrev pub planFor : Plan
+  planFor =
+      let d = blake2s [] program 32 in
+      record {
+        seed = seed;
+        next = nextOf type 1 d (zeros 32) (zeros 184);
+        program = program;
+        secret = secret;
+        udi = [];
+        builtIn = d;
+        ram = program;
+      }
 
-abbrev pub repeated : ℕ → List Plan
-repeated zero = []
-repeated (suc n) = somePlan ∷ repeated n
+  pub possible-for : type ≤ 5 → length seed ≡ 32 → 1 ≤ length program → length program ≤ 131072 → SecretFor type secret → Possible planFor
+  possible-for t s n m c =
+      let typed : Typed (planFor .next) = record { mask-word = omega arith; first-length = digest-length program; second-length = refl } in
+      record {
+        fitting = record { typed = typed; known = t; data-length = refl };
+        seeded = refl;
+        seed-length = s;
+        ram-small = m;
+        not-empty = n;
+        fits = omega arith;
+        allowed = record { built-in = λ e. refl; recorded = λ e. inl refl };
+        secret = c;
+      }
 
-pub all-possible : (n : ℕ) → All Possible (repeated n)
-all-possible zero = tt
-all-possible (suc n) = (possible, all-possible n)
+-- ---- types in any order
 
-pub repeated-length : (n : ℕ) (ls : List Link) → Paired Carried (repeated n) ls → length ls ≡ n
-repeated-length zero [] h = refl
-repeated-length zero (l ∷ ls) h = absurd h
-repeated-length (suc n) [] h = absurd h
-repeated-length (suc n) (l ∷ ls) h = ap suc (repeated-length n ls (h .1))
+abbrev pub plansFor : List ℕ → List Plan
+plansFor [] = []
+plansFor (n ∷ ns) = planFor n (zeros 32) (zeros 1) none ∷ plansFor ns
+
+pub all-possible : (ns : List ℕ) → All (λ n. n ≤ 5) ns → All Possible (plansFor ns)
+all-possible [] h = tt
+all-possible (n ∷ ns) h = (possible-for n (zeros 32) (zeros 1) none (h .0) refl (omega arith) (omega arith) tt, all-possible ns (h .1))
+
+pub in-order : (ns : List ℕ) (ls : List Link) → Paired Carried (plansFor ns) ls → Paired (λ n l. l .next .type ≡ n) ns ls
+in-order [] [] h = tt
+in-order [] (l ∷ ls) h = absurd h
+in-order (n ∷ ns) [] h = absurd h
+in-order (n ∷ ns) (l ∷ ls) h = (ap (λ (x : Next). x .type) (h .0 .next), in-order ns ls (h .1))

@@ -6,9 +6,12 @@ use mathlib.Core.Option.{some}
 use mathlib.Core.List.{List}
 use lib.Dec.{eqb}
 use lib.ListN.{length}
+use Rattle.rfc7693.specs.Rfc7693.{rotr, words, iv, sigma, added, xorRotated, G, workVector, round, rounds, F, input, blockAt, blockCount, leading, compressions, compressed, initial, blake2s}
+use Rattle.endian.specs.Endian.{word, firstBytes}
 use Rattle.record.specs.Record.{Contents, resetSeed, recordAt}
-use Rattle.handover.specs.Reset.{Next, written}
-use Rattle.handover.specs.Theorems.{Fitting, asked}
+use Rattle.handover.specs.Reset.{Next, measuredIdFor, written, HandedOver, resetting}
+use Rattle.handover.specs.Theorems.{Typed, Fitting, asked}
+use Rattle.handover.proofs.Numbers.{accepted-is}
 use Rattle.handover.proofs.Proved.{handovers}
 use Rattle.head.specs.Answers.{Result}
 use Rattle.head.specs.Begin.{configOf, waitingWith, byType, beginning}
@@ -20,9 +23,10 @@ use Rattle.session.proofs.Begins.{not-refused, client-waits}
 use Rattle.session.proofs.Proved.{sound}
 use Rattle.record.specs.declared.Digests.{Digests}
 use Rattle.head.specs.declared.Config.{Config}
-use Rattle.chain.specs.Theorems.{Begins, Chains}
+use Rattle.chain.specs.Theorems.{Begins, Example, Chains}
+use Rattle.chain.proofs.Links.{measured-length}
 use Rattle.chain.proofs.Ends.{folded, strings-are, same-starts, same-end}
-use Rattle.chain.proofs.Plans.{four-or-five, planned, first, repeated, all-possible, repeated-length}
+use Rattle.chain.proofs.Plans.{four-or-five, planned, first, planFor, possible-for, plansFor, all-possible, in-order}
 
 module _ (x : Next) (id : List ℕ) (h : Fitting x) (hi : length id ≡ 32) (R : Reset) (e : R .rec ≡ written x id) (a : Admitted R) where
   reads : recordAt (R .rec) ≡ asked x id
@@ -72,10 +76,21 @@ module _ (x : Next) (id : List ℕ) (h : Fitting x) (hi : length id ≡ 32) (R :
             ∙ config-is (x .type) (client n);
       }
 
+written-begins : (cdi seed : List ℕ) (x : Next) (room : List ℕ) → Typed x → resetting cdi seed x room .number ≡ 0
+    → (R : Reset) → R .rec ≡ resetting cdi seed x room .rec → Admitted R → Begins x (measuredIdFor (x .mask) cdi seed) R
+written-begins cdi seed x room typed k R e a =
+    let l = handovers .accepts cdi seed x room .0 k in
+    let w = ap (λ (y : HandedOver). y .rec) (accepted-is cdi seed x room k) in
+    begins x (measuredIdFor (x .mask) cdi seed) (record { typed = typed; known = l .0; data-length = l .4 }) (measured-length (x .mask) cdi seed) R (e ∙ w) a
+
+example : Example
+unfolding word rotr words firstBytes iv sigma added xorRotated G workVector round rounds F input blockAt blockCount leading compressions compressed initial blake2s
+example = record { two-links = refl }
+
 pub chains : Chains
 chains =
     record {
-      begins = begins;
+      begins = written-begins;
       cdi = λ c. folded (basis (c .first) .uds) (c .first) (c .links) (c .linked);
       injective = λ c c′ e.
           same-starts (c .links) (c′ .links)
@@ -86,7 +101,9 @@ chains =
       exists = λ t ps h.
           let r = planned (basis t .uds) (sound t .eight) (sound t .typed) t ps h in
           (record { first = t; links = r .0; linked = r .1 }, refl, r .2);
-      lengths = λ n.
-          let r = planned (basis first .uds) (sound first .eight) (sound first .typed) first (repeated n) (all-possible n) in
-          (record { first = first; links = r .0; linked = r .1 }, repeated-length n (r .0) (r .2));
+      possible = λ n seed program secret t s l m c. (planFor n seed program secret, possible-for n seed program secret t s l m c, refl, refl, refl, refl);
+      orders = λ ns h.
+          let r = planned (basis first .uds) (sound first .eight) (sound first .typed) first (plansFor ns) (all-possible ns h) in
+          (record { first = first; links = r .0; linked = r .1 }, in-order ns (r .0) (r .2));
+      example = example;
     }

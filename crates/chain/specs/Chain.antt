@@ -10,7 +10,7 @@ use Rattle.endian.specs.Endian.{bytes}
 use Rattle.record.specs.Record.{resetSeed}
 use Rattle.handover.specs.Reset.{Next, mixed, HandedOver, resetting}
 use Rattle.handover.specs.Theorems.{Typed}
-use Rattle.session.specs.Session.{begun}
+use Rattle.session.specs.Session.{Reset, begun}
 use Rattle.session.specs.Boot.{AnyStart, from-client, from-flash, basis, userSecret}
 
 -- ---- the CDI at the end, worked out
@@ -54,6 +54,11 @@ module _ (uds : List ℕ) where
 abbrev pub givenCdi : AnyStart → List ℕ
 givenCdi (from-client S t) = t .out .cdi
 givenCdi (from-flash R t) = begun R .cdi
+
+-- the reset that it began with
+abbrev pub resetOf : AnyStart → Reset
+resetOf (from-client S t) = S .reset
+resetOf (from-flash R t) = R
 
 -- a start by a client's session, or from flash
 abbrev pub isClient : AnyStart → Bool

@@ -3,7 +3,7 @@
 use Prim.Native.Nat.{ℕ, _<_, _≤_}
 use mathlib.Core.Path.{_≡_}
 use mathlib.Core.Logic.{_⊎_}
-use mathlib.Core.Bool.{Bool, true, cond, not}
+use mathlib.Core.Bool.{true, cond}
 use mathlib.Core.Option.{Option, none, some}
 use mathlib.Core.List.{List, [], _∷_}
 use lib.Dec.{eqb, leb}
@@ -11,14 +11,13 @@ use lib.ListN.{length, getD}
 use Rattle.rfc7693.specs.Rfc7693.{blake2s}
 use Rattle.endian.specs.Lists.{zeros, All}
 use Rattle.record.specs.Record.{resetSeed, hasSecond}
-use Rattle.handover.specs.Reset.{Next, written}
-use Rattle.handover.specs.Theorems.{Fitting, asked}
+use Rattle.handover.specs.Reset.{Next, measuredIdFor, resetting}
+use Rattle.handover.specs.Theorems.{Typed, Fitting, asked, counting}
 use Rattle.head.specs.Answers.{continues}
-use Rattle.head.specs.Begin.{Slot, byType}
+use Rattle.head.specs.Begin.{byType}
 use Rattle.session.specs.Session.{Reset, begun, Admitted}
 use Rattle.session.specs.Boot.{Same, AnyStart, basis, userSecret}
-use Rattle.head.specs.declared.Config.{Config}
-use Rattle.chain.specs.Chain.{foldedCdi, foldedStrings, hashedStrings, givenCdi, isClient, Link, mixOf, mixes, Chain, lastStart, firstUds, firstCdi}
+use Rattle.chain.specs.Chain.{foldedCdi, foldedStrings, hashedStrings, givenCdi, resetOf, isClient, Link, mixes, Chain, lastStart, firstUds, firstCdi}
 
 -- ---- begin on a record that a reset wrote
 
@@ -41,6 +40,14 @@ pub record Begins (x : Next) (measuredId : List ℕ) (R : Reset) : Type 0 where
         verify = eqb (x .type) 5;
         chained = resetSeed (x .mask);
       }
+
+-- ---- an example
+
+-- a chain of two links, the first without a user secret and the second with one; the CDI is python's, by hashlib
+pub record Example : Type 0 where
+  pub two-links : foldedCdi (counting 0x80) (counting 0x00) (record { seed = counting 0x20; secret = none } ∷ record { seed = counting 0x40; secret = some (counting 0x60) } ∷ []) ≡
+      0x28 ∷ 0x64 ∷ 0xe1 ∷ 0x92 ∷ 0xd1 ∷ 0xfa ∷ 0x39 ∷ 0xba ∷ 0x39 ∷ 0xbd ∷ 0x90 ∷ 0xb2 ∷ 0xa6 ∷ 0x18 ∷ 0x49 ∷ 0xf2 ∷
+      0x40 ∷ 0x4c ∷ 0x68 ∷ 0xc5 ∷ 0xcc ∷ 0x8b ∷ 0x52 ∷ 0x14 ∷ 0xd3 ∷ 0x10 ∷ 0x70 ∷ 0x6d ∷ 0x5e ∷ 0x7e ∷ 0x0d ∷ 0xca ∷ []
 
 -- ---- two chains
 
@@ -71,8 +78,7 @@ pub record SameLine (c c′ : Chain) : Type 0 where
 
 -- ---- there are chains
 
--- a link as it is planned: what the reset is asked for, the program, the user secret or none, and what else the head then has: UDI, built-in digest, RAM,
--- what stands behind the program in its slot, and the other slot
+-- a link as it is planned: what the reset is asked for, the program, the user secret or none, and UDI, built-in digest and RAM of the head
 pub record Plan : Type 0 where
   pub seed : List ℕ
   pub next : Next
@@ -81,8 +87,6 @@ pub record Plan : Type 0 where
   pub udi : List ℕ
   pub builtIn : List ℕ
   pub ram : List ℕ
-  pub rest : List ℕ
-  pub other : Slot
 
 -- the record that is asked for allows the program: type 0 has the built-in digest only, types 2, 3 and 5 those that are asked for
 pub record Allows (x : Next) (builtIn d : List ℕ) : Type 0 where
@@ -111,11 +115,14 @@ pub record Carried (p : Plan) (l : Link) : Type 0 where
   pub program : basis (l .start) .program ≡ p .program
   pub secret : userSecret (basis (l .start)) ≡ p .secret
   pub client : isClient (l .start) ≡ leb 4 (p .next .type)
+  pub udi : resetOf (l .start) .udi ≡ p .udi
+  pub builtIn : resetOf (l .start) .flash .builtIn ≡ p .builtIn
+  pub ram : resetOf (l .start) .ram ≡ p .ram
 
 pub record Chains : Type 0 where
-  -- begin on a record that a reset wrote
-  pub begins : (x : Next) (measuredId : List ℕ) → Fitting x → length measuredId ≡ 32 → (R : Reset) → R .rec ≡ written x measuredId → Admitted R
-      → Begins x measuredId R
+  -- begin on the record that an accepted reset wrote
+  pub begins : (cdi seed : List ℕ) (x : Next) (room : List ℕ) → Typed x → resetting cdi seed x room .number ≡ 0
+      → (R : Reset) → R .rec ≡ resetting cdi seed x room .rec → Admitted R → Begins x (measuredIdFor (x .mask) cdi seed) R
   -- the last CDI is worked out from the first, the UDS, and seed and user secret of each link. Programs, digests, data and RAM of the links do not enter
   pub cdi : (c : Chain) → givenCdi (lastStart c) ≡ foldedCdi (firstUds c) (firstCdi c) (mixes (c .links))
   -- two chains, of one head or of two, whose strings are equal link by link
@@ -126,7 +133,11 @@ pub record Chains : Type 0 where
   pub same-end : (c c′ : Chain) → length (c .links) ≡ length (c′ .links) → givenCdi (lastStart c) ≡ givenCdi (lastStart c′)
       → SameLine c c′ ⊎ Collision (hashedStrings (firstUds c) (firstCdi c) (mixes (c .links))) (hashedStrings (firstUds c′) (firstCdi c′) (mixes (c′ .links)))
   -- after every start, every list of links that is possible comes about, by client and from flash in any order
-  pub exists : (t : AnyStart) (ps : List Plan) → All Possible ps
-      → (c : Chain) × (c .first ≡ t) × Paired Carried ps (c .links)
-  -- and there is a chain of every length
-  pub lengths : (n : ℕ) → (c : Chain) × (length (c .links) ≡ n)
+  pub exists : (t : AnyStart) (ps : List Plan) → All Possible ps → (c : Chain) × (c .first ≡ t) × Paired Carried ps (c .links)
+  -- a link is possible with every type, seed, program and user secret, if the record allows that program
+  pub possible : (type : ℕ) (seed program : List ℕ) (secret : Option (List ℕ)) → type ≤ 5 → length seed ≡ 32 → 1 ≤ length program → length program ≤ 131072
+      → SecretFor type secret
+      → (p : Plan) × Possible p × (p .next .type ≡ type) × (p .seed ≡ seed) × (p .program ≡ program) × (p .secret ≡ secret)
+  -- so there is a chain of every length, with types in any order
+  pub orders : (types : List ℕ) → All (λ n. n ≤ 5) types → (c : Chain) × Paired (λ n l. l .next .type ≡ n) types (c .links)
+  pub example : Example

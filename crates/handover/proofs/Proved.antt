@@ -16,7 +16,7 @@ use Rattle.record.proofs.Proved.{after}
 use Rattle.record.specs.Record.{Field, typeField, maskField, firstDigestField, measuredIdField, secondDigestField, dataField, fieldOf, numberIn, hasSecond, recordAt}
 use Rattle.rfc7693.specs.Rfc7693.{rotr, words, iv, sigma, added, xorRotated, G, workVector, round, rounds, F, input, blockAt, blockCount, leading, compressions, compressed, initial, blake2s}
 use Rattle.handover.specs.Reset.{numberOf, Next, mixed, four, written, inputsFit, HandedOver, handedOver, resetting}
-use Rattle.handover.specs.Theorems.{Fitting, Fields, asked, someCdi, someSeed, someFirst, someSecond, Examples, Handovers}
+use Rattle.handover.specs.Theorems.{Fitting, Fields, asked, counting, Examples, Handovers}
 use Rattle.handover.specs.declared.Answer.{Answer}
 use Rattle.handover.specs.declared.Answer.the-variants.{Accepted, NextType, RecordLength, InputLength}
 use Rattle.handover.proofs.Numbers.{fit-lengths, by-type, by-record, by-inputs, by-none}
@@ -169,14 +169,14 @@ module _ (cdi seed : List ℕ) (x : Next) (rec : List ℕ) where
 -- ---- the examples
 
 -- the hash of the 64 bytes
-mix : mixed someCdi someSeed
+mix : mixed (counting 0x00) (counting 0x20)
     ≡ 0x56 ∷ 0xf3 ∷ 0x4e ∷ 0x8b ∷ 0x96 ∷ 0x55 ∷ 0x7e ∷ 0x90 ∷ 0xc1 ∷ 0xf2 ∷ 0x4b ∷ 0x52 ∷ 0xd0 ∷ 0xc8 ∷ 0x9d ∷ 0x51 ∷
     0x08 ∷ 0x6a ∷ 0xcf ∷ 0x1b ∷ 0x00 ∷ 0xf6 ∷ 0x34 ∷ 0xcf ∷ 0x1d ∷ 0xde ∷ 0x92 ∷ 0x33 ∷ 0xb8 ∷ 0xea ∷ 0xaa ∷ 0x3e ∷ []
-unfolding word rotr words firstBytes iv sigma added xorRotated G workVector round rounds F input blockAt blockCount leading compressions compressed initial blake2s someCdi someSeed
+unfolding word rotr words firstBytes iv sigma added xorRotated G workVector round rounds F input blockAt blockCount leading compressions compressed initial blake2s
 mix = refl
 
 examples : Examples
-unfolding resetting written firstBytes someCdi someSeed someFirst someSecond
+unfolding resetting written firstBytes
 examples = record {
   chained = λ d rec h r. rw (r, h, mix) (ap (handedOver 0 (zeros 32)) (append-nil _));
   direct = λ d rec h r. rw (r, h) (ap (handedOver 0 (zeros 32)) (append-nil _));

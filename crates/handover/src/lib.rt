@@ -2,7 +2,6 @@
 // CDI behind.
 // Change request 7 and source document 002, RESET, in the terms of specs/Reset.antt.
 ghost use mathlib.Core.Path.{_≡_};
-ghost use mathlib.Core.List.{_++_};
 ghost use Prim.Native.Nat.{_+_, _≤_};
 ghost use lib.ListN.{length};
 ghost use Rattle.endian.specs.Lists.{zeros};

@@ -1,9 +1,9 @@
 -- All of it is copied over.
-use mathlib.Core.Path.{_≡_, ap, _∙_}
-use mathlib.Core.List.{List, append-nil, _++_}
+use mathlib.Core.Path.{ap, _∙_}
+use mathlib.Core.List.{List, _++_}
 use Prim.Native.Nat.{ℕ}
 use native.Mathlib.Omega.{arith}
-use lib.ListN.{length, drop, replicate, length-drop}
+use lib.ListN.{drop, replicate, length-drop}
 use Rattle.endian.proofs.Lists.{empty}
 use borrow.Author.Needs.{needs}
 use Rattle.handover.proofs.clear.Statement.{statement}

@@ -1,5 +1,4 @@
 -- The three tests are those of the definition.
-use native.Mathlib.Omega.{arith}
 use Rattle.record.specs.Record.{hasSecond}
 use Rattle.handover.proofs.Records.{from-small}
 use borrow.Author.Needs.{needs}

@@ -1,9 +1,7 @@
 -- Six stores (`stored`).
 use mathlib.Core.Path.{_≡_}
-use Prim.Native.Nat.{_+_, _≤_}
-use native.Mathlib.Omega.{arith}
 use lib.ListN.{length}
-use Rattle.record.specs.Record.{dataField, hasSecond}
+use Rattle.record.specs.Record.{hasSecond}
 use Rattle.handover.proofs.Records.{from-size, stored}
 use borrow.Author.Needs.{needs}
 use Rattle.handover.proofs.write.Statement.{statement}
