@@ -42,9 +42,6 @@ module _ (uds : List ℕ) (t : AnyStart) (l : Link) (h : Follows uds t l) where
   abbrev id : List ℕ
   id = mixed cdi (l .seed)
 
-  pub seed-length : length (l .seed) ≡ 32
-  seed-length = handovers .accepts cdi (l .seed) (l .next) (l .room) .0 (h .accepted) .3
-
   fitting : Fitting (l .next)
   fitting =
       let a = handovers .accepts cdi (l .seed) (l .next) (l .room) .0 (h .accepted) in

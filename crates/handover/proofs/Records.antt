@@ -12,10 +12,6 @@ use Rattle.endian.proofs.Words.{bytes-length}
 use Rattle.record.specs.Record.{Field, typeField, maskField, firstDigestField, measuredIdField, secondDigestField, dataField, hasSecond}
 use Rattle.handover.specs.Reset.{Next, nextOf, four, contents, put, putAll, written}
 
-pub from-small : (has : Bool) → dataField has .from ≤ 256
-from-small true = omega arith
-from-small false = omega arith
-
 pub from-size : (has : Bool) → dataField has .from + dataField has .size ≤ 256
 from-size true = omega arith
 from-size false = omega arith
