@@ -38,7 +38,7 @@ SESSIONS = range(BITS - 56, BITS + 644)  # seeds; those below BITS have one bit 
 PARTS = 65536  # what the program reads at once
 
 # README's words of each stop, and what to look at.
-WHY = {20: "the record's type is 6 or above", **{k: line.split(": ", 1)[1].rstrip("\n") for k, line in simulate.STOPS.items()}}
+WHY = {k: line.split(": ", 1)[1].rstrip("\n") for k, line in simulate.STOPS.items()}
 LOOK = {
     20: "what wrote the record; a record that was never written; over the cable the type is 4 or 5",
     22: "the cable, or a byte lost before",

@@ -1,6 +1,6 @@
 #!/usr/bin/env python3
-"""Loads ./simulate over real pseudo-terminals with the independent client (server.py), and from its flash, and compares every reply, every
-line that it shows, the CDI by hashlib and the exit status. The cases run beside each other.
+"""Loads ./simulate over real pseudo-terminals with the independent client (server.py), and from its flash, by options and by whole records,
+and compares every reply, every line that it shows, the CDI by hashlib and the exit status. The cases run beside each other.
 """
 import concurrent.futures
 import itertools
@@ -8,6 +8,7 @@ import os
 import random
 import re
 import signal
+import struct
 import subprocess
 import sys
 import tempfile
@@ -28,6 +29,7 @@ FLASH_SIZES = [1, 64, 32768, RAM_MOST]
 
 # README's table of stops
 STOPS = {
+    20: "stopped 20: the record's type is 6 or above\n",
     22: "stopped 22: bit 7 or bit 2 of a header is set\n",
     23: "stopped 23: the command is not allowed now, or unknown\n",
     24: "stopped 24: the command has another body length\n",
@@ -271,6 +273,115 @@ def client_with_flash(folder):
         head.ends(0, shown(program, started(program)))
 
 
+# ---- whole records
+
+
+def record_with(kind, first=None, second=None, measured_id=None, mask=0):
+    """The bytes of a record that allows these programs. Where it says nothing it has bytes that are not zero, as in its data."""
+    mask |= (measured_id is not None) + 2 * (second is not None)
+    front = struct.pack("<II", kind, mask) + (b"\x5a" * 32 if first is None else blake2s(first)) + (measured_id or b"\xa5" * 32)
+    return (front + (b"" if second is None else blake2s(second))).ljust(256, b"\x5a")
+
+
+def on_record(folder, *given, **more):
+    """The options for a head that begins on a record."""
+    return ["--record", written(Path(tempfile.mkdtemp(dir=folder)), "a record", record_with(*given, **more))]
+
+
+OLD, NEW, OTHER = b"the old program", b"the new program", b"another program"
+ID = b"m" * 32
+
+
+def record_flash(folder):
+    """Types 1 to 3. Type 1 takes the program in its slot though the record has another digest."""
+    paths = {program: written(folder, f"by record {k}", program) for k, program in enumerate((OLD, NEW, OTHER))}
+    for kind, program, second, measured_id in itertools.product((1, 2, 3), paths, (None, NEW), (None, ID)):
+        good = kind == 1 or program in (OLD, second)
+        slots = [f"--slot{kind % 2}", paths[program], f"--slot{1 - kind % 2}", paths[OLD]]
+        end = (0, started(program, ID, measured_id)) if good else (25, STOPS[25])
+        boots(*end, *on_record(folder, kind, OLD, second, measured_id), *slots, "--uds", ID.hex())
+    boots(26, STOPS[26], *on_record(folder, 2, b""), "--slot1", paths[OLD])
+    boots(26, STOPS[26], *on_record(folder, 1), "--slot1", paths[OLD], "--ram", len(OLD) - 1)
+
+
+def record_built_in(folder):
+    """Type 0 takes the program of --require, and neither of those in the record."""
+    paths = {program: written(folder, f"built in {k}", program) for k, program in enumerate((OLD, NEW, OTHER))}
+    for program, second, measured_id in itertools.product(paths, (None, NEW), (None, ID)):
+        end = (0, started(program, measured_id=measured_id)) if program == OTHER else (25, STOPS[25])
+        options = on_record(folder, 0, OLD, second, measured_id)
+        boots(*end, *options, "--require", paths[OTHER], "--slot0", paths[program], "--slot1", paths[OTHER])
+
+
+def record_client(folder):
+    """Types 4 and 5."""
+    for kind, program, second, measured_id in itertools.product((4, 5), (OLD, NEW), (None, NEW), (None, ID)):
+        head = Head(*on_record(folder, kind, OLD, second, measured_id), "--uds", ID.hex())
+        head.load(program, 1, ID)
+        if kind == 4 or program in (OLD, second):
+            head.ends(0, shown(program, started(program, ID, measured_id, ID)))
+        else:
+            head.ends(25, shown(program, STOPS[25]))
+
+
+def record_ignored(folder):
+    """The other bits of the mask change nothing, nor does a second digest without its bit."""
+    path, other = written(folder, "ignored", OLD), written(folder, "not allowed", NEW)
+    options = on_record(folder, 3, OLD, mask=0xFFFFFFFC)
+    boots(0, started(OLD), *options, "--slot1", path)
+    boots(25, STOPS[25], *options, "--slot1", other)
+    record = bytearray(record_with(3, OLD, NEW))
+    record[4] = 0
+    boots(25, STOPS[25], "--record", written(folder, "no bit", record), "--slot1", other)
+
+
+def record_unknown(folder):
+    """No type: the head stops before it looks at anything else."""
+    path = written(folder, "of no type", OLD)
+    for kind in (6, 7, 255, 256, 0x01000000, 0x80000000, 2**32 - 1):
+        boots(20, STOPS[20], *on_record(folder, kind, OLD, NEW, ID), "--slot0", path, "--slot1", path)
+        boots(20, STOPS[20], *on_record(folder, kind))
+
+
+SAID = "the record says it: leave {} out"
+NEEDS = "a record of type 0 needs --require PROGRAM, which is the one built into the firmware"
+EXACTLY = "a reset record has exactly 256 bytes"
+
+# Words behind a record: its type or length, the words, and what is said of them.
+RECORDED = [
+    (4, "--type 4", SAID.format("--type")),
+    (5, "--type 4", SAID.format("--type")),
+    (5, "--require $0", SAID.format("--require")),
+    (4, "--require $0", SAID.format("--require")),
+    (6, "--require $0", SAID.format("--require")),
+    (2, "--or-require $0", SAID.format("--or-require")),
+    (2, f"--measured-id {'00' * 32}", SAID.format("--measured-id")),
+    (1, f"--measured-id {'00' * 32} --type 1 --or-require $0", SAID.format("--type and --or-require and --measured-id")),
+    (3, "--require $0 --or-require $0", SAID.format("--require and --or-require")),
+    (0, "", NEEDS),
+    (0, "--slot0 $0 --or-require $0", NEEDS),
+    (0, "--require $0 --or-require $0", SAID.format("--or-require")),
+    (0, "--require $0 --type 0", SAID.format("--type")),
+    (0, f"--require $0 --measured-id {'00' * 32}", SAID.format("--measured-id")),
+    (4, "--record 'no such file'", "argument --record: no such file: No such file or directory"),
+    (4, "--record /", "argument --record: /: Is a directory"),
+    (4, "--record", "argument --record: expected one argument"),
+    *((4, f"--record $2/{n}", f"argument --record: FOLDER/{n}: {EXACTLY}") for n in (0, 1, 255, 257, 1000)),
+]
+
+
+def record_refused(folder):
+    inside = Path(tempfile.mkdtemp(dir=folder))
+    for n in (0, 1, 255, 257, 1000):
+        written(inside, str(n), (record_with(4) * 4)[:n])
+    for kind, words, why in RECORDED:
+        path = written(inside, "record", record_with(kind))
+        shell = ["sh", "-c", f'exec "$0" --record "$1" {words}', SIMULATE, path, inside]
+        done = subprocess.run(shell, stdin=subprocess.DEVNULL, capture_output=True, timeout=SECONDS)
+        wanted = f"simulate: {why}; see ./simulate --help\n".replace("FOLDER", str(inside))
+        expect(f"type {kind} {words}", (done.returncode, done.stdout, done.stderr.decode()), (2, b"", wanted))
+
+
 # ---- what a terminal shows
 
 
@@ -368,12 +479,13 @@ def readme(folder):
     section = (TOP / "README.md").read_text().split("## A red lamp")[1].split("\n## ")[0]
     rows = [row.split(" | ") for row in section.splitlines() if row[:3] == "| 2"]
     wanted = [[f"| {number}", line.removeprefix(f"stopped {number}: ").rstrip("\n")] for number, line in STOPS.items()]
-    expect("number and words of each stop", [row[:2] for row in rows], [["| 20", "the record's type is 6 or above"], *wanted])
+    expect("number and words of each stop", [row[:2] for row in rows], wanted)
 
 
 def readme_flash(folder):
     """README's example of a program from flash."""
-    found = re.findall(r"^    \$ ./simulate (--.*)\n    /dev/pts/.*\n((?:    .*\n)+)", (TOP / "README.md").read_text(), re.M)
+    section = (TOP / "README.md").read_text().split("## Loading a head")[1].split("\n## ")[0]
+    found = re.findall(r"^    \$ ./simulate (--.*)\n    /dev/pts/.*\n((?:    .*\n)+)", section, re.M)
     expect("examples", len(found), 1)
     options, lines = found[0]
     expect("its lines", lines.replace("    ", ""), started((TOP / "sample" / "program.bin").read_bytes()))
@@ -455,6 +567,8 @@ def cases():
     for case in (no_room, opened_often, read_late, never_read, other_digest, changeover, stops_while_loading, terminal_start, terminal_stop):
         yield case.__name__, case
     yield from flash_cases()
+    for case in (record_flash, record_built_in, record_client, record_ignored, record_unknown, record_refused):
+        yield case.__name__, case
     for case in (readme, readme_flash, usage, second_refused, elsewhere, dies):
         yield case.__name__, case
     yield "not built", not_built("simulate")
