@@ -4,7 +4,7 @@
 #   firmware/build.sh                     the proved calls, crate abi, to target/riscv32
 #   firmware/build.sh OUT SOURCE...       the same calls from other sources, in C or for LLVM (.ll), to OUT, for bench and tests
 #
-# In the folder are then libmastfrap.a, which has the three calls of include/mastfrap.h for a head and what they call; session,
+# In the folder are then libmastfrap.a, which has the four calls of include/mastfrap.h for a head and what they call; session,
 # which is firmware/head.c on Linux (qemu-riscv32 target/riscv32/session < sample/session.bin); and for each object a file .su,
 # with the stack that each function takes. Says in one line what went wrong, and exits with 1.
 set -eu

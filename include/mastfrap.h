@@ -7,8 +7,8 @@
  *     rt staticlib blake2s    target/staticlib/libblake2s.a    mastfrap_blake2s
  *     rt staticlib client     target/staticlib/libclient.a     mastfrap_make_frame, _read_reply, _difference
  *     rt staticlib diagnosis  target/staticlib/libdiagnosis.a  mastfrap_diagnose
- *     rt staticlib abi        target/staticlib/libabi.a        mastfrap_begin, _gather, _act
- *     firmware/build.sh       target/riscv32/libmastfrap.a     the same three, for riscv32
+ *     rt staticlib abi        target/staticlib/libabi.a        mastfrap_begin, _gather, _act, _reset
+ *     firmware/build.sh       target/riscv32/libmastfrap.a     the same four, for riscv32
  *
  * Link those whose calls you use: they have no symbol in common, but for the last two.
  *
@@ -200,7 +200,7 @@ enum {
  * The program is at the front of ram, and runs at start[0], which is 0x40000000: ram is what the processor
  * sees there.
  *
- * More that the proof takes the caller's word for, in all three: each array is good for as many bytes or
+ * More that the proof takes the caller's word for, in all four: each array is good for as many bytes or
  * words as stand in its brackets, and nothing that a call writes overlaps anything else that it is lent.
  */
 
@@ -239,6 +239,39 @@ uint32_t mastfrap_act(uint32_t numbers[MASTFRAP_STATE_NUMBERS], uint8_t bytes[MA
                       uint8_t *room, mastfrap_size room_len, uint8_t *ram, mastfrap_size ram_len,
                       uint32_t *uds, mastfrap_size uds_len, uint32_t *reply_len, uint32_t start[2],
                       uint8_t cdi[MASTFRAP_CDI_BYTES], uint8_t digest[MASTFRAP_DIGEST_BYTES]);
+
+/* What a reset answers. */
+enum {
+    MASTFRAP_RESET_ACCEPTED = 0,
+    MASTFRAP_RESET_NEXT_TYPE = 44,     /* next_type is over 5 */
+    MASTFRAP_RESET_RECORD_LENGTH = 45, /* record_len is not 256 */
+    MASTFRAP_RESET_INPUT_LENGTH = 46   /* cdi_len or seed_len is not 32, or data_len not as the mask asks */
+};
+
+#define MASTFRAP_SEED_BYTES 32
+#define MASTFRAP_NEXT_DATA_BYTES 184        /* the data in a record with one digest */
+#define MASTFRAP_NEXT_DATA_BYTES_SECOND 152 /* and in one with a second: mask bit 1 */
+
+/*
+ * Hands over to the next program: writes the reset record from which the next begin starts it, by the layout
+ * above, and clears the CDI. It needs no state: the running program asks for it, after a start.
+ *
+ * Unless the call is refused, record holds next_type, the mask with all of its 32 bits, first, measured_id,
+ * second if mask bit 1 is set, and data, which fills the rest: 152 bytes with that bit, and 184 without it.
+ * With mask bit 0 (RESET_SEED) measured_id is the BLAKE2s digest of the 32 bytes at cdi and then the 32 at
+ * seed: from it, the device secret and the user secret, if there is one, comes the CDI of the next start,
+ * whatever the next program is. Without it measured_id is 32 zeros, and the next CDI that of a direct start.
+ * Then cdi holds 32 zeros. If the call is refused, neither record nor cdi is changed.
+ *
+ * What the call leaves on the stack is not cleared: the CDI can be found there.
+ *
+ * More that the proof takes the caller's word for: second is good for 32 bytes, also where it is not used.
+ * cdi and record overlap neither each other nor seed, first, second and data.
+ */
+uint32_t mastfrap_reset(uint8_t *cdi, mastfrap_size cdi_len, const uint8_t *seed, mastfrap_size seed_len,
+                        uint32_t next_type, uint32_t mask, const uint8_t first[MASTFRAP_DIGEST_BYTES],
+                        const uint8_t second[MASTFRAP_DIGEST_BYTES], const uint8_t *data,
+                        mastfrap_size data_len, uint8_t *record, mastfrap_size record_len);
 
 /* ---- libdiagnosis.a: why a loom did not start */
 

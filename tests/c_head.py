@@ -1,10 +1,10 @@
 #!/usr/bin/env python3
 """The head's C calls against head.py, call by call: programs from flash, sessions, lists of calls in random order, states made by
-hand and memory of any bytes, also such as holds no state, and everything lent with other lengths than it must have. The answer, and
-every byte that was lent, must be the same, in accepted and refused calls alike.
+hand and memory of any bytes, also such as holds no state, resets, and everything lent with other lengths than it must have. The
+answer, and every byte that was lent, must be the same, in accepted and refused calls alike.
 
     c_head.py                    builds the static library, and makes all calls
-    c_head.py --library PATH     makes them to a shared library, such as one of bench/head.c
+    c_head.py --library PATH     makes them to a shared library, such as one of bench/head.c, reset.c and reference.c
     c_head.py --riscv32 PATH     makes a part of them to a program of tests/calls_riscv32.c, such as tests/firmware.py builds
 """
 import argparse
@@ -17,9 +17,10 @@ from copy import deepcopy
 from pathlib import Path
 
 from head import EMPTY_SLOTS, RAM_MOST, ZEROS, Frame, Head, Slot, blake2s
-from lent import BYTES, NUMBERS, PHASES, ROOM, WORDS, Calls, Difference, Library, Memory, Program
+from lent import BYTES, NAMES, NUMBERS, PHASES, ROOM, WORDS, Calls, Difference, Library, Memory, Program, holding
 
 TOP = Path(__file__).resolve().parent.parent
+PROVED = TOP / "target" / "rlib" / "abi.rlib"
 ARCHIVE = TOP / "target" / "staticlib" / "libabi.a"
 LIBRARY = TOP / "target" / "tests" / "libabi.so"
 
@@ -38,11 +39,16 @@ RANDOM_BEGINS = 3000
 RANDOM_CALLS = 60000
 RANDOM_MEMORIES = 20000
 RANDOM_LISTS = 200
+RANDOM_RESETS = 3000
 EMULATOR = "qemu-riscv32"
 FEWER = 3  # for the emulator, of the lists that take the longest, one in so many
 
 
 def build():
+    """Builds the library. The kit proves the crate again for that, so it is kept until the crate, or one that it uses, changes."""
+    subprocess.run(["rt", "check", "abi"], cwd=TOP, check=True, stdout=subprocess.DEVNULL)
+    if LIBRARY.exists() and LIBRARY.stat().st_mtime_ns > PROVED.stat().st_mtime_ns:
+        return
     subprocess.run(["rt", "staticlib", "abi"], cwd=TOP, check=True, stdout=subprocess.DEVNULL)
     LIBRARY.parent.mkdir(parents=True, exist_ok=True)
     whole = ["-Wl,--whole-archive", ARCHIVE, "-Wl,--no-whole-archive"]
@@ -640,6 +646,48 @@ def random_lists(calls):
             calls.seen["lists", "started by the second"] += two == blake2s(PROGRAM[:size])
 
 
+# ---- resets
+
+LOANS = dict(cdi=288, seed=288, data=288, record=288)  # what there is to lend from
+LENGTHS = [0, 1, 31, 32, 33, 151, 152, 153, 183, 184, 185, 255, 256, 257]
+NEXT_TYPES = [*range(8), 255, 256, 0x10004, 2**31, 2**32 - 1]
+MASKS = [*range(8), 0x100, 0x101, 0x102, 0x200, 0x10001, 0x80000000, 0x80000003, 0xFFFFFFFC, 0xFFFFFFFD, 0xFFFFFFFE, 0xFFFFFFFF]
+
+
+def reset_with(rng, calls, what, kind, mask, **lengths):
+    """A reset with any bytes in all that it is lent, and behind it."""
+    parts = {name: rng.randbytes(n) for name, n in (LOANS | dict(first=32, second=32)).items()}
+    answer = calls.reset(f"reset: {what}, type {kind}, mask {mask:x}, {lengths}", holding(**parts), kind, mask, **lengths)
+    if answer.kind == "W":
+        calls.seen["accepted resets", f"type {kind}"] += 1
+        calls.seen["accepted resets", f"mask ..{mask & 3:02b}"] += 1
+
+
+def resets(calls):
+    rng = random.Random(10)
+    for kind, mask in itertools.product(NEXT_TYPES, [*MASKS, *(rng.getrandbits(32) for _ in range(8))]):
+        reset_with(rng, calls, "masks", kind, mask)
+    reset_loans(rng, calls)
+    for k in some(calls, range(RANDOM_RESETS)):
+        kind, mask = rng.choice([*range(6)] * 4 + [6, rng.getrandbits(32)]), rng.getrandbits(32)
+        wrong = {name: rng.choice([*LENGTHS, rng.randrange(n + 1)]) for name, n in LOANS.items() if rng.random() < 0.1}
+        reset_with(rng, calls, f"random {k}", kind, mask, **wrong)
+
+
+def reset_loans(rng, calls):
+    """Every length of each loan, every set of refusals, and lengths of one loan that are right for another."""
+    for (name, most), mask in itertools.product(LOANS.items(), range(4)):
+        for n in range(most + 1):
+            reset_with(rng, calls, "a length", 5, mask, **{name: n})
+        for kind, n in itertools.product([0, 6, 2**32 - 1], LENGTHS):
+            reset_with(rng, calls, "a length", kind, mask, **{name: n})
+    near = [151, 152, 153, 183, 184, 185]
+    for kind, mask, cdi, seed, data, record in itertools.product([4, 6], range(4), [31, 32, 33], [31, 32, 33], near, [255, 256, 257]):
+        reset_with(rng, calls, "lengths", kind, mask, cdi=cdi, seed=seed, data=data, record=record)
+    for name, kind, mask in itertools.product(LOANS if calls.far else [], [4, 6], range(4)):
+        reset_with(rng, calls, "2^32 more", kind, mask, far=name)
+
+
 # What must come up, so that agreement says something.
 GATHERS = ["W", "A", "X 1", "X 2", "X 47", "F 22"]
 ACTS = ["W", "S", "X 1", "X 2", "X 47", "X 3", "X 4", "X 5", "F 23", "F 24", "F 25"]
@@ -647,6 +695,8 @@ KINDS = {
     "begin": ["W", "S", "X 5", "X 6", "X 7", "F 20", "F 25", "F 26"],
     "gather": GATHERS,
     "act": ACTS,
+    "reset": ["W", "X 44", "X 45", "X 46"],
+    "accepted resets": [f"type {kind}" for kind in range(6)] + [f"mask ..{bits:02b}" for bits in range(4)],
     "random begins": [f"{answer} of type {kind}" for kind in range(4) for answer in "SF"],
     "random calls": ["start by the first, bit 0", "start by the first, bit 1", "start by the second, bit 1"],
     "memory": ["no state", "out of range"],
@@ -657,7 +707,7 @@ KINDS = {
     "act in lists": ACTS,
 }
 PARTS = {begins: "", loads: "", digests: "", two_digests: "", stops: "", refusals: "", random_begins: "", random_calls: ""}
-PARTS |= {random_memories: "on any memory", random_lists: "in lists"}
+PARTS |= {random_memories: "on any memory", random_lists: "in lists", resets: ""}
 
 
 def main(made):
@@ -667,7 +717,7 @@ def main(made):
         part(calls)
     made.end()
     seen = calls.seen
-    print(f"c_head: {sum(seen[call, k] for call in ('begin', 'gather', 'act') for k in KINDS[call])} calls")
+    print(f"c_head: {sum(seen[call, k] for call in NAMES for k in KINDS[call])} calls")
     for name, kinds in KINDS.items():
         print(f"  {name}: " + ", ".join(f"{seen[name, k]} {k}" for k in kinds))
     missing = [f"{name}: {k}" for name, kinds in KINDS.items() for k in kinds if not seen[name, k]]

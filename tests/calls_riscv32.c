@@ -1,5 +1,5 @@
 /*
- * Makes the head's three calls on riscv32, one after the other, as standard input asks; lent.py is the other side. It needs read,
+ * Makes the head's four calls on riscv32, one after the other, as standard input asks; lent.py is the other side. It needs read,
  * write and _exit, which firmware/linux_riscv32.s has.
  *
  * A call comes as a struct asked and so many bytes of memory, and goes back as its answer, four bytes, and the memory after it. The
@@ -12,7 +12,7 @@
 
 #define MEMORY_BYTES 524288
 
-enum { BEGIN, GATHER, ACT };
+enum { BEGIN, GATHER, ACT, RESET };
 
 struct asked {
     uint32_t call, memory_len;
@@ -76,6 +76,8 @@ static uint32_t answer(void)
     case ACT:
         return mastfrap_act(words(0), bytes(1), bytes(2), a[3], bytes(4), a[5], words(6), a[7], words(8), words(9), bytes(10),
                             bytes(11));
+    case RESET:
+        return mastfrap_reset(bytes(0), a[1], bytes(2), a[3], a[4], a[5], bytes(6), bytes(7), bytes(8), a[9], bytes(10), a[11]);
     default:
         _exit(1);
     }

@@ -1,5 +1,5 @@
-"""Document 01's head with the two calls of change request 8 and the flash of change request 3, written again from the papers: the second
-implementation that the tests hold the loader to.
+"""Document 01's head with the two calls of change request 8, the flash of change request 3 and the reset of change request 7, written again
+from the papers: the second implementation that the tests hold the loader to.
 
 Nothing here is taken from the loader. BLAKE2s is hashlib's.
 """
@@ -263,6 +263,28 @@ def begin(record, udi, slots, built_in, ram, words):
     if kind in (TYPE_CLIENT, TYPE_CLIENT_VER):
         return Answer("W"), head
     return head.boot(slots[kind in (TYPE_FLASH1, TYPE_FLASH1_VER)], ram, words), head
+
+
+# ---- handing over
+
+
+def reset(cdi, seed, kind, mask, one, two, data, record):
+    """Writes the record of the next start, unless it is refused. CDI and record are lent: both are written, or neither is."""
+    seeded, has_second = mask & 1 == 1, mask & 2 == 2
+    filled = len(cdi) == len(seed) == 32 and len(data) == (152 if has_second else 184)
+    refused = first({44: kind > TYPE_CLIENT_VER, 45: len(record) != RECORD, 46: not filled})
+    if refused:
+        return Answer("X", refused)
+    measured_id = blake2s(cdi + seed) if seeded else ZEROS
+    numbers = kind.to_bytes(4, "little") + mask.to_bytes(4, "little")
+    record[:] = numbers + one + measured_id + (two if has_second else b"") + data
+    cdi[:] = ZEROS
+    return Answer("W")
+
+
+def next_cdi(cdi, seed, uds, uss=None):
+    """The CDI of the start after a reset with RESET_SEED, from the one before it: neither record nor program counts."""
+    return blake2s(uds + bytes([2 if uss is None else 3]) + blake2s(cdi + seed) + (uss or b""))
 
 
 # ---- the session printer

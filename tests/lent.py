@@ -1,6 +1,7 @@
 """The head's C calls on memory that is lent to them, each held to head.py: its answer, and every byte of the memory after it.
 
-A `Memory` has all that gather and act are lent, in one array with guard bytes around each part. What a call must leave there
+A `Memory` has all that gather and act are lent, in one array with guard bytes around each part, and what begin and reset are
+lent besides is in another. What a call must leave there
 follows from what it finds there: the state is read from the memory by the layout in include/mastfrap.h, head.py plays the call,
 and the next state goes back by the layout. A call that is refused must leave all of it, and one that is not must write every part
 that it gives.
@@ -17,7 +18,7 @@ from collections import Counter
 from functools import lru_cache
 from typing import NamedTuple
 
-from head import ADDRESS, Answer, Frame, Head, begin
+from head import ADDRESS, RECORD, Answer, Frame, Head, begin, reset
 
 NUMBERS, BYTES = 3, 268
 ROOM, WORDS = 160, 9  # what there is to lend from
@@ -25,7 +26,7 @@ SPARE = 8  # guard bytes, at least, on either side of a part
 GUARD, STALE = b"\xa5", b"\x99"  # what is in them, and in what a call gives before it
 MAP_NORESERVE = 0x4000  # of Linux; python 3.11 has no name for it
 PHASES = ["waiting", "loading", "started", "stopped"]
-NAMES = ["begin", "gather", "act"]
+NAMES = ["begin", "gather", "act", "reset"]
 MOST_ARGUMENTS = 19
 ASKED = f"<2I{MOST_ARGUMENTS}Q"  # struct asked of tests/calls_riscv32.c
 SECONDS = 300  # for all calls of a program
@@ -77,6 +78,11 @@ def begin_parts(answer, head, record, ram, words):
 def act_parts(answer, head, room, ram, words):
     lent = {"reply_len": struct.pack("<I", answer.reply), "ram": ram, "words": word_bytes(words)}
     return start_parts(answer) | state_parts(head) | lent | ({} if isinstance(room, Long) else {"room": room})
+
+
+def data_length(mask):
+    """How much data a reset takes: what its record has left."""
+    return 152 if mask & 2 else 184
 
 
 def answer_number(answer):
@@ -139,8 +145,8 @@ class Array:
         return "bytes around what was lent were written"
 
 
-def read_only(**parts):
-    """What a call is lent to read."""
+def holding(**parts):
+    """An array that holds these bytes."""
     array = Array(tuple((name, len(value), False) for name, value in parts.items()))
     for name, value in parts.items():
         array[name] = value
@@ -233,6 +239,7 @@ class Library:
         self.calls["begin"].argtypes = [pointer, pointer, *lent, pointer, *slot, *slot, pointer, *lent, *lent, *ends]
         self.calls["gather"].argtypes = [pointer, pointer, ctypes.c_uint8]
         self.calls["act"].argtypes = [pointer, pointer, *lent, *lent, *lent, pointer, *ends]
+        self.calls["reset"].argtypes = [*lent, *lent, *[ctypes.c_uint32] * 2, pointer, pointer, *lent, *lent]
         for call in self.calls.values():
             call.restype = ctypes.c_uint32
         self.far = Far()
@@ -324,7 +331,7 @@ class Calls:
             lent[far] = Long(len(lent[far]) + Far.MORE)
         answer, head = begin(lent["record"], udi, slots, built_in, lent["ram"], lent["words"])
         parts = {} if answer.kind == "X" else begin_parts(answer, head, **lent)
-        array = read_only(record=record, udi=udi, slot0=slots[0].flash, slot1=slots[1].flash, built_in=built_in)
+        array = holding(record=record, udi=udi, slot0=slots[0].flash, slot1=slots[1].flash, built_in=built_in)
         before, m, r = bytes(array.data), memory.pointer, array.pointer
         call = [m("numbers"), m("bytes"), *self.lend(array, far, "record", len(record)), r("udi")]
         call += [x for k in (0, 1) for x in (r(f"slot{k}"), len(slots[k].flash), slots[k].size)]
@@ -356,4 +363,20 @@ class Calls:
         self.hold(what, "act", memory, answer, parts, call)
         if far:
             self.far.take(what, lent[far].front)
+        return answer
+
+    def reset(self, what, memory, kind, mask, far=None, **lengths):
+        """Memory is an array with a part for each pointer. Lengths are as they must be, but for those that are given."""
+        lengths = dict(cdi=32, seed=32, data=data_length(mask), record=RECORD) | lengths
+        lent = {name: memory[name][:n] for name, n in lengths.items()}
+        if far:
+            lent[far] = Long(len(lent[far]) + Far.MORE)
+        digests = memory["first"], memory["second"]
+        answer = reset(lent["cdi"], lent["seed"], kind, mask, *digests, lent["data"], lent["record"])
+        parts = {} if answer.kind == "X" else {name: lent[name] for name in ("cdi", "record")}
+        loans = {name: self.lend(memory, far, name, n) for name, n in lengths.items()}
+        call = [*loans["cdi"], *loans["seed"], kind, mask, *map(memory.pointer, ["first", "second"]), *loans["data"], *loans["record"]]
+        self.hold(what, "reset", memory, answer, parts, call)
+        if far:
+            self.far.take(what, b"")
         return answer
