@@ -22,10 +22,13 @@ MOST = {
     "instructions, acting on a block that is not the last": 6000,
     "bytes of stack, from main down, without the board's": 3000,
     "bytes of code and constants": 12288,
+    "bytes of stack, from a reset down": 3000,
+    "bytes of code and constants, with reset": 12288,
 }
-BYTE, BLOCK, STACK, CODE = MOST
+BYTE, BLOCK, STACK, CODE, RESET_STACK, RESET_CODE = MOST
 
 CALLS = ["mastfrap_begin", "mastfrap_gather", "mastfrap_act"]
+RESET = "mastfrap_reset"  # not a part of every head
 BOARD = ["board", "uart_read", "uart_write", "lamp", "run"]  # of firmware/board.h: what they take is the board's, and counts as 0
 EMULATOR = "qemu-riscv32"
 TRACED = re.compile(rb"Trace .*\[[0-9a-f]+/([0-9a-f]+)/")  # an instruction that was executed, by its address
@@ -152,22 +155,22 @@ def deepest(name, functions, sizes, above=()):
 
 
 def stack(folder):
-    """The deepest way from main and from each call, and its bytes."""
+    """The deepest way from main, from each call and from a reset, and its bytes."""
     functions = {name: f for path in objects(folder) for name, f in Elf(path).functions().items()}
     sizes = frames(folder)
-    ways = [deepest(name, functions, sizes) for name in ["main", *CALLS]]
+    ways = [deepest(name, functions, sizes) for name in ["main", *CALLS, RESET]]
     return [(sum(sizes[f] for f in way), " + ".join(f"{f} {sizes[f]}" for f in way)) for way in ways]
 
 
 # ---- code
 
 
-def linked(folder):
-    """The three calls and what they call, in one file without the rest."""
+def linked(folder, calls):
+    """These calls and what they call, in one file without the rest."""
     linker = Path(os.environ.get("RATTLE_HOME", "/opt/rattle")) / "on" / platform.machine() / "toolchain" / "bin" / "ld.lld"
-    roots = [word for call in CALLS for word in ("-u", call)]
+    roots = [word for call in calls for word in ("-u", call)]
     out = folder / "calls"
-    subprocess.run([linker, "--gc-sections", "-e", CALLS[0], *roots, folder / "libmastfrap.a", "-o", out], check=True)
+    subprocess.run([linker, "--gc-sections", "-e", calls[0], *roots, folder / "libmastfrap.a", "-o", out], check=True)
     return Elf(out)
 
 
@@ -183,8 +186,10 @@ def code(elf, folder):
 
 class Figures:
     def __init__(self, folder):
-        self.folder, self.elf, self.ways = folder, linked(folder), stack(folder)
-        self.of = instructions(folder) | {STACK: self.ways[0][0], CODE: code(self.elf, folder)}
+        self.folder, self.ways = folder, stack(folder)
+        self.of = instructions(folder) | {STACK: self.ways[0][0], CODE: code(linked(folder, CALLS), folder)}
+        self.elf = linked(folder, [*CALLS, RESET])
+        self.of |= {RESET_STACK: self.ways[-1][0], RESET_CODE: code(self.elf, folder)}
 
     def print_more(self):
         print(f"\n{self.folder}: stack along the deepest calls")

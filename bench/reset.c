@@ -1,5 +1,5 @@
 /*
- * The reset call of include/mastfrap.h as ordinary C. With head.c and reference.c it is a library that tests/c_head.py and
+ * The reset call of include/mastfrap.h as ordinary C, for bench/firmware.sh. With head.c and reference.c it is a library that tests/c_head.py and
  * tests/c_chain.py can be given: broken by hand, it shows that they fail.
  */
 #include <stddef.h>
