@@ -17,8 +17,8 @@ static void put_number(uint8_t *p, uint32_t n)
 }
 
 uint32_t mastfrap_reset(uint8_t *cdi, mastfrap_size cdi_len, const uint8_t *seed, mastfrap_size seed_len, uint32_t next_type,
-                        uint32_t mask, const uint8_t first[32], const uint8_t second[32], const uint8_t *data,
-                        mastfrap_size data_len, uint8_t *record, mastfrap_size record_len)
+                        uint32_t mask, const uint8_t first[32], const uint8_t second[32], const uint8_t *next_data,
+                        mastfrap_size next_data_len, uint8_t *record, mastfrap_size record_len)
 {
     uint32_t data_at = mask & 2 ? 104 : 72;
     uint8_t string[64];
@@ -27,7 +27,7 @@ uint32_t mastfrap_reset(uint8_t *cdi, mastfrap_size cdi_len, const uint8_t *seed
         return 44;
     if (record_len != 256)
         return 45;
-    if (cdi_len != 32 || seed_len != 32 || data_len != 256 - data_at)
+    if (cdi_len != 32 || seed_len != 32 || next_data_len != 256 - data_at)
         return 46;
     put_number(record, next_type);
     put_number(record + 4, mask);
@@ -40,7 +40,7 @@ uint32_t mastfrap_reset(uint8_t *cdi, mastfrap_size cdi_len, const uint8_t *seed
     }
     if (mask & 2)
         memcpy(record + 72, second, 32);
-    memcpy(record + data_at, data, data_len);
+    memcpy(record + data_at, next_data, next_data_len);
     memset(cdi, 0, 32);
     return 0;
 }

@@ -245,7 +245,7 @@ enum {
     MASTFRAP_RESET_ACCEPTED = 0,
     MASTFRAP_RESET_NEXT_TYPE = 44,     /* next_type is over 5 */
     MASTFRAP_RESET_RECORD_LENGTH = 45, /* record_len is not 256 */
-    MASTFRAP_RESET_INPUT_LENGTH = 46   /* cdi_len or seed_len is not 32, or data_len not as the mask asks */
+    MASTFRAP_RESET_INPUT_LENGTH = 46   /* cdi_len or seed_len is not 32, or next_data_len not as the mask asks */
 };
 
 #define MASTFRAP_SEED_BYTES 32
@@ -257,7 +257,7 @@ enum {
  * above, and clears the CDI. It needs no state: the running program asks for it, after a start.
  *
  * Unless the call is refused, record holds next_type, the mask with all of its 32 bits, first, measured_id,
- * second if mask bit 1 is set, and data, which fills the rest: 152 bytes with that bit, and 184 without it.
+ * second if mask bit 1 is set, and next_data, which fills the rest: 152 bytes with that bit, and 184 without it.
  * With mask bit 0 (RESET_SEED) measured_id is the BLAKE2s digest of the 32 bytes at cdi and then the 32 at
  * seed: from it, the device secret and the user secret, if there is one, comes the CDI of the next start,
  * whatever the next program is. Without it measured_id is 32 zeros, and the next CDI that of a direct start.
@@ -266,12 +266,12 @@ enum {
  * What the call leaves on the stack is not cleared: the CDI can be found there.
  *
  * More that the proof takes the caller's word for: second is good for 32 bytes, also where it is not used.
- * cdi and record overlap neither each other nor seed, first, second and data.
+ * cdi and record overlap neither each other nor seed, first, second and next_data.
  */
 uint32_t mastfrap_reset(uint8_t *cdi, mastfrap_size cdi_len, const uint8_t *seed, mastfrap_size seed_len,
                         uint32_t next_type, uint32_t mask, const uint8_t first[MASTFRAP_DIGEST_BYTES],
-                        const uint8_t second[MASTFRAP_DIGEST_BYTES], const uint8_t *data,
-                        mastfrap_size data_len, uint8_t *record, mastfrap_size record_len);
+                        const uint8_t second[MASTFRAP_DIGEST_BYTES], const uint8_t *next_data,
+                        mastfrap_size next_data_len, uint8_t *record, mastfrap_size record_len);
 
 /* ---- libdiagnosis.a: why a loom did not start */
 

@@ -176,11 +176,20 @@ pub extern "C" fn mastfrap_reset(
     mask: u32,
     first: &[u8; 32],
     second: &[u8; 32],
-    data: &[u8],
+    next_data: &[u8],
     record: &mut [u8],
 ) -> u32
-    ensures { λ r. ⌜ handedOver r (now (cdi .exit)) (now («record» .exit)) ≡ resetting (now (cdi .entry)) (now (seed .entry)) (nextOf «next_type» mask (now (first .entry)) (now (second .entry)) (now («data» .entry))) (now («record» .entry)) ⌝ }
+    ensures { λ r. ⌜ handedOver r (now (cdi .exit)) (now («record» .exit)) ≡ resetting (now (cdi .entry)) (now (seed .entry)) (nextOf «next_type» mask (now (first .entry)) (now (second .entry)) (now («next_data» .entry))) (now («record» .entry)) ⌝ }
 {
-    let answer = handover::reset(cdi, seed, next_type, mask, *first, *second, data, record);
+    let answer = handover::reset(
+        cdi,
+        seed,
+        next_type,
+        mask,
+        *first,
+        *second,
+        next_data,
+        record,
+    );
     handover::answer_number(answer)
 }

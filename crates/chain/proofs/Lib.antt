@@ -1,4 +1,5 @@
 pub mod Links
+pub mod Configs
 pub mod Ends
 pub mod Plans
 pub mod Proved

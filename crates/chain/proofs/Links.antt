@@ -1,4 +1,4 @@
--- One link: what its reset wrote, what begin makes of it, and the string of its start.
+-- One link: what its reset wrote, and the string of its start.
 use Prim.Native.Nat.{ℕ}
 use mathlib.Core.Path.{_≡_, refl, ap, _∙_}
 use mathlib.Core.Bool.{Bool, true, false, cond}
@@ -6,19 +6,18 @@ use mathlib.Core.Option.{none, some}
 use mathlib.Core.List.{List, [], _∷_, _++_, append-nil}
 use lib.ListN.{length}
 use Rattle.rfc7693.specs.Rfc7693.{blake2s}
+use Rattle.rfc7693.proofs.Lengths.{digest-length}
 use Rattle.endian.specs.Endian.{bytes}
 use Rattle.endian.specs.Lists.{zeros}
 use Rattle.record.specs.Record.{resetSeed}
 use Rattle.cdi.specs.Cdi.{cdiString}
-use Rattle.handover.specs.Reset.{mixed, measuredIdFor, written, HandedOver}
-use Rattle.handover.specs.Theorems.{Fitting, Fields}
-use Rattle.handover.proofs.Numbers.{accepted-is}
+use Rattle.handover.specs.Reset.{mixed}
+use Rattle.handover.specs.Theorems.{Fields}
 use Rattle.handover.proofs.Proved.{handovers}
 use Rattle.session.specs.Reading.{chained, measuredId}
-use Rattle.session.specs.Boot.{AnyStart, from-client, from-flash, basis, digest, startString, measurement}
-use Rattle.session.proofs.Strings.{digest-length}
+use Rattle.session.specs.Boot.{AnyStart, from-client, from-flash, basis, digest, measurement, startString}
 use Rattle.session.proofs.Proved.{verified-boot}
-use Rattle.chain.specs.Chain.{chainString, linkString, nextCdi, givenCdi, Link, mixOf, Follows}
+use Rattle.chain.specs.Chain.{givenCdi, Link, resetAfter, Follows, inputOf, chainString, linkString, nextCdi}
 
 -- the CDI of a start is the hash of its string
 pub cdi-is : (t : AnyStart) → givenCdi t ≡ blake2s [] (startString (basis t)) 32
@@ -28,13 +27,6 @@ cdi-is (from-flash R t) = verified-boot .flash-gives R t .start .cdi
 pub cdi-length : (t : AnyStart) → length (givenCdi t) ≡ 32
 cdi-length t = ap length (cdi-is t) ∙ digest-length (startString (basis t))
 
-pub measured-length : (mask : ℕ) (cdi seed : List ℕ) → length (measuredIdFor mask cdi seed) ≡ 32
-measured-length mask cdi seed = go (resetSeed mask)
-  where
-    go : (b : Bool) → length (cond b (mixed cdi seed) (zeros 32)) ≡ 32
-    go true = digest-length (cdi ++ seed)
-    go false = refl
-
 module _ (uds : List ℕ) (t : AnyStart) (l : Link) (h : Follows uds t l) where
   abbrev cdi : List ℕ
   cdi = givenCdi t
@@ -42,30 +34,19 @@ module _ (uds : List ℕ) (t : AnyStart) (l : Link) (h : Follows uds t l) where
   abbrev id : List ℕ
   id = mixed cdi (l .seed)
 
-  fitting : Fitting (l .next)
-  fitting =
-      let a = handovers .accepts cdi (l .seed) (l .next) (l .room) .0 (h .accepted) in
-      record { typed = h .typed; known = a .0; data-length = a .4 }
+  fields : Fields (l .next) (cond (resetSeed (l .next .mask)) id (zeros 32)) (resetAfter t l .rec)
+  fields = handovers .gives cdi (l .seed) (l .next) (l .memory) (h .typed) (h .accepted) .fields
 
-  rec-is : basis (l .start) .rec ≡ written (l .next) id
-  rec-is =
-      h .on-record
-      ∙ ap (λ (y : HandedOver). y .rec) (accepted-is cdi (l .seed) (l .next) (l .room) (h .accepted))
-      ∙ ap (λ (b : Bool). written (l .next) (cond b id (zeros 32))) (h .seeded)
-
-  fields : Fields (l .next) id (written (l .next) id)
-  fields = handovers .fields (l .next) id fitting (digest-length (cdi ++ l .seed))
-
-  chained-is : chained (basis (l .start) .rec) ≡ true
-  chained-is = ap chained rec-is ∙ ap resetSeed (fields .mask) ∙ h .seeded
+  pub chained-is : chained (basis (l .start) .rec) ≡ true
+  chained-is = ap chained (h .on-record) ∙ ap resetSeed (fields .mask) ∙ h .seeded
 
   id-is : measuredId (basis (l .start) .rec) ≡ id
-  id-is = ap measuredId rec-is ∙ fields .measured
+  id-is = ap measuredId (h .on-record) ∙ fields .measured ∙ ap (λ (b : Bool). cond b id (zeros 32)) (h .seeded)
 
   pub measurement-is : measurement (basis (l .start)) ≡ id
   measurement-is = ap (λ (b : Bool). cond b (measuredId (basis (l .start) .rec)) (digest (basis (l .start)))) chained-is ∙ id-is
 
-  pub string-is : startString (basis (l .start)) ≡ linkString (bytes uds) cdi (mixOf l)
+  pub string-is : startString (basis (l .start)) ≡ linkString (bytes uds) cdi (inputOf l)
   unfolding cdiString
   string-is =
       let b = basis (l .start) in
@@ -79,5 +60,5 @@ module _ (uds : List ℕ) (t : AnyStart) (l : Link) (h : Follows uds t l) where
       go true = refl
       go false = append-nil (bytes uds ++ 2 ∷ id)
 
-  pub next-is : givenCdi (l .start) ≡ nextCdi (bytes uds) cdi (mixOf l)
+  pub next-is : givenCdi (l .start) ≡ nextCdi (bytes uds) cdi (inputOf l)
   next-is = cdi-is (l .start) ∙ ap (λ (s : List ℕ). blake2s [] s 32) string-is

@@ -1,29 +1,29 @@
 -- There are chains: each plan that is possible becomes a link, whatever start is before it.
-use Prim.Native.Nat.{ℕ, zero, suc, _≤_}
+use Prim.Native.Nat.{ℕ, _≤_}
 use mathlib.Core.Path.{_≡_, refl, sym, ap, _∙_}
-use mathlib.Core.Logic.{_⊎_, inl, inr, ⊎-map}
+use mathlib.Core.Logic.{_⊎_, inl, inr}
 use mathlib.Core.Bool.{Bool, true, false, cond}
 use mathlib.Core.Option.{Option, none, some}
-use mathlib.Core.List.{List, [], _∷_, _++_}
+use mathlib.Core.List.{List, [], _∷_, _++_, map}
 use native.Mathlib.Omega.{arith}
 use lib.Dec.{ltb, leb}
 use lib.ListN.{length}
 use borrow.Author.Tests.{ltb-true, ltb-false, leb-true, leb-false}
+use Rattle.endian.proofs.Words.{zero-words}
+use Rattle.rfc7693.proofs.Lengths.{digest-length}
 use Rattle.rfc7693.specs.Rfc7693.{blake2s}
 use Rattle.endian.specs.Lists.{zeros, All, Words}
-use Rattle.record.specs.Record.{hasSecond}
-use Rattle.handover.specs.Reset.{Next, nextOf, mixed, written, HandedOver, resetting}
-use Rattle.handover.specs.Theorems.{Typed, Fields}
+use Rattle.handover.specs.Reset.{Next, nextOf, mixed, writtenRecord, HandedOver, resetting}
+use Rattle.handover.specs.Theorems.{Typed, InputsFit, Fields}
 use Rattle.handover.proofs.Numbers.{accepted-is}
-use Rattle.handover.proofs.Proved.{handovers}
+use Rattle.handover.proofs.Proved.{handovers, fields as written-fields}
 use Rattle.head.specs.Begin.{Slot}
 use Rattle.session.specs.Reading.{typeOf, Allowed}
 use Rattle.session.specs.Session.{Reset, AsksClient, Admitted}
 use Rattle.session.specs.Boot.{AnyStart, from-client, from-flash, basis, userSecret, resetHolding}
-use Rattle.session.proofs.Strings.{digest-length}
 use Rattle.session.proofs.Proved.{verified-boot}
-use Rattle.chain.specs.Chain.{givenCdi, resetOf, isClient, Link, Follows, Linked}
-use Rattle.chain.specs.Theorems.{Paired, Plan, SecretFor, Possible, Carried}
+use Rattle.chain.specs.Chain.{givenCdi, Link, Follows, Linked}
+use Rattle.chain.specs.Theorems.{Paired, begunWith, isClient, Plan, SecretFor, Possible, Carried}
 use Rattle.chain.proofs.Links.{cdi-length}
 
 abbrev none-held : Slot
@@ -45,45 +45,45 @@ module _ (uds : List ℕ) (eight : length uds ≡ 8) (words : Words uds) where
     id = mixed (givenCdi t) (p .seed)
 
     abbrev rec : List ℕ
-    rec = written x id
+    rec = writtenRecord x id
 
     abbrev d : List ℕ
     d = blake2s [] (p .program) 32
 
+    id-length : length id ≡ 32
+    id-length = digest-length (givenCdi t ++ p .seed)
+
     fields : Fields x id rec
-    fields = handovers .fields x id (h .fitting) (digest-length (givenCdi t ++ p .seed))
+    fields = written-fields x id (h .typed) (h .known) (h .data-length) id-length
 
     -- the reset that writes it
-    accepted : resetting (givenCdi t) (p .seed) x (zeros 256) .number ≡ 0
-    accepted = handovers .accepts (givenCdi t) (p .seed) x (zeros 256) .1 (h .fitting .known, refl, cdi-length t, h .seed-length, h .fitting .data-length)
+    abbrev outcome : HandedOver
+    outcome = resetting (givenCdi t) (p .seed) x (p .memory)
 
-    wrote : resetting (givenCdi t) (p .seed) x (zeros 256) .rec ≡ rec
+    accepted : outcome .number ≡ 0
+    accepted =
+        let i : InputsFit (givenCdi t) (p .seed) x = record { cdi-length = cdi-length t; seed-length = h .seed-length; data-length = h .data-length } in
+        handovers .settles (givenCdi t) (p .seed) x (p .memory) .accepts .1 (h .known, h .memory-length, i)
+
+    wrote : outcome .rec ≡ rec
     wrote =
-        ap (λ (y : HandedOver). y .rec) (accepted-is (givenCdi t) (p .seed) x (zeros 256) accepted)
-        ∙ ap (λ (b : Bool). written x (cond b id (zeros 32))) (h .seeded)
+        ap (λ (y : HandedOver). y .rec) (accepted-is (givenCdi t) (p .seed) x (p .memory) accepted)
+        ∙ ap (λ (b : Bool). writtenRecord x (cond b id (zeros 32))) (h .seeded)
 
     allows : Allowed rec (p .builtIn) d
-    allows =
-        let a = h .allowed in
-        record {
-          built-in = λ e. a .built-in (sym (fields .type) ∙ e);
-          recorded = λ e.
-              ⊎-map (λ y. y ∙ sym (fields .first)) (λ y. (ap hasSecond (fields .mask) ∙ y .0, y .1 ∙ sym (fields .second (y .0))))
-              (a .recorded (rw (← fields .type) e));
-        }
-
-    -- a start on it is a link
-    linked : (s : AnyStart) → basis s .rec ≡ rec → basis s .uds ≡ uds
-        → Follows uds t (record { seed = p .seed; next = x; room = zeros 256; start = s })
-    linked s e u = record { typed = h .fitting .typed; accepted = accepted; seeded = h .seeded; on-record = e ∙ sym wrote; afresh = u }
+    allows = h .allowed id id-length
 
     abbrev Made : Type 0
     Made = (l : Link) × Follows uds t l × Carried p l
 
+    -- a start on it is a link
     made : (s : AnyStart) → basis s .rec ≡ rec → basis s .uds ≡ uds → basis s .program ≡ p .program → userSecret (basis s) ≡ p .secret
-        → isClient s ≡ leb 4 (x .type) → resetOf s .udi ≡ p .udi → resetOf s .flash .builtIn ≡ p .builtIn → resetOf s .ram ≡ p .ram → Made
-    made s e u q c k i b r =
-        (record { seed = p .seed; next = x; room = zeros 256; start = s }, linked s e u, record { seed = refl; next = refl; program = q; secret = c; client = k; udi = i; builtIn = b; ram = r })
+        → isClient s ≡ leb 4 (x .type) → begunWith s .udi ≡ p .udi → begunWith s .flash .builtIn ≡ p .builtIn → begunWith s .ram ≡ p .ram → Made
+    made s e u q c k i b r = (
+      record { seed = p .seed; next = x; memory = p .memory; start = s },
+      record { typed = h .typed; accepted = accepted; seeded = h .seeded; on-record = e ∙ sym wrote; afresh = u },
+      record { seed = refl; next = refl; memory = refl; program = q; secret = c; client = k; udi = i; builtIn = b; ram = r },
+    )
 
     some-ram : 1 ≤ length (p .ram)
     some-ram = omega (arith, h .not-empty, h .fits)
@@ -116,7 +116,7 @@ module _ (uds : List ℕ) (eight : length uds ≡ 8) (words : Words uds) where
     by-client k flag uss l c =
         let n = leb-true 4 (x .type) k in
         let a : Admitted lent = record { eight = eight; record-length = fields .size; ram-some = some-ram; ram-small = h .ram-small } in
-        let q : AsksClient lent = rw (fields .type) (four-or-five (x .type) n (h .fitting .known)) in
+        let q : AsksClient lent = rw (fields .type) (four-or-five (x .type) n (h .known)) in
         let s = verified-boot .exists lent (p .ram) uds (p .program) flag uss a q refl eight words (h .not-empty) (h .fits) allows l in
         let r = s .same-reset in
         made (from-client (s .session) (s .start)) (ap (λ (R : Reset). R .rec) r) (s .same-uds) (s .same-program) (s .same-secret ∙ sym c) (sym k) (ap (λ (R : Reset). R .udi) r) (ap (λ (R : Reset). R .flash .builtIn) r) (ap (λ (R : Reset). R .ram) r)
@@ -149,29 +149,25 @@ abbrev anything : Next
 anything = nextOf 1 0 (zeros 32) (zeros 32) (zeros 184)
 
 abbrev someRecord : List ℕ
-someRecord = written anything (zeros 32)
-
-typed : Typed anything
-typed = record { mask-word = omega arith; first-length = refl; second-length = refl }
+someRecord = writtenRecord anything (zeros 32)
 
 some-fields : Fields anything (zeros 32) someRecord
-some-fields = handovers .fields anything (zeros 32) (record { typed = typed; known = omega arith; data-length = refl }) refl
-
-zero-words : (n : ℕ) → Words (zeros n)
-zero-words zero = tt
-zero-words (suc n) = (omega arith, zero-words n)
+some-fields =
+    let typed : Typed anything = record { mask-word = omega arith; first-length = refl; second-length = refl } in
+    written-fields anything (zeros 32) typed (omega arith) refl refl
 
 -- from slot 1, of any digest
 abbrev firstReset : Reset
-firstReset = resetHolding someRecord [] [] (zeros 1) (zeros 8) (zeros 1) [] none-held (zero-words 8)
+firstReset = resetHolding someRecord (zeros 8) (zeros 32) (zeros 1) (zeros 8) (zeros 1) [] none-held (zero-words 8)
 
 pub first : AnyStart
 first =
     let one : typeOf someRecord ≡ 1 = some-fields .type in
     let a : Admitted firstReset = record { eight = refl; record-length = some-fields .size; ram-some = omega arith; ram-small = omega arith } in
-    let d : Allowed someRecord [] (blake2s [] (zeros 1) 32) =
+    let d : Allowed someRecord (zeros 32) (blake2s [] (zeros 1) 32) =
     record { built-in = λ e. absurd (omega arith); recorded = unverified (typeOf someRecord) (λ e. omega arith) (λ e. omega arith) (λ e. omega arith) } in
-    from-flash firstReset (verified-boot .flash-exists someRecord [] [] (zeros 1) (zeros 8) (zeros 1) [] none-held (zero-words 8) a (omega arith) (omega arith) (omega arith) d .0)
+    from-flash firstReset
+    (verified-boot .flash-exists someRecord (zeros 8) (zeros 32) (zeros 1) (zeros 8) (zeros 1) [] none-held (zero-words 8) a (omega arith) (omega arith) (omega arith) d .0)
 
 -- ---- a plan for each type, seed, program and user secret: the record, and for type 0 the firmware, allows that program
 
@@ -182,39 +178,48 @@ module _ (type : ℕ) (seed program : List ℕ) (secret : Option (List ℕ)) whe
       record {
         seed = seed;
         next = nextOf type 1 d (zeros 32) (zeros 184);
+        memory = zeros 256;
         program = program;
         secret = secret;
-        udi = [];
+        udi = zeros 8;
         builtIn = d;
         ram = program;
       }
 
+  typed-for : Typed (planFor .next)
+  typed-for = record { mask-word = omega arith; first-length = digest-length program; second-length = refl }
+
   pub possible-for : type ≤ 5 → length seed ≡ 32 → 1 ≤ length program → length program ≤ 131072 → SecretFor type secret → Possible planFor
   possible-for t s n m c =
-      let typed : Typed (planFor .next) = record { mask-word = omega arith; first-length = digest-length program; second-length = refl } in
       record {
-        fitting = record { typed = typed; known = t; data-length = refl };
-        seeded = refl;
+        typed = typed-for;
+        known = t;
+        data-length = refl;
         seed-length = s;
-        ram-small = m;
+        memory-length = refl;
+        seeded = refl;
         not-empty = n;
         fits = omega arith;
-        allowed = record { built-in = λ e. refl; recorded = λ e. inl refl };
+        ram-small = m;
+        udi-length = refl;
+        builtIn-length = digest-length program;
+        allowed = λ id l.
+            record { built-in = λ e. refl; recorded = λ e. inl (sym (written-fields (planFor .next) id typed-for t refl l .first)) };
         secret = c;
       }
 
 -- ---- types in any order
 
 abbrev pub plansFor : List ℕ → List Plan
-plansFor [] = []
-plansFor (n ∷ ns) = planFor n (zeros 32) (zeros 1) none ∷ plansFor ns
+plansFor = map (λ n. planFor n (zeros 32) (zeros 1) none)
 
 pub all-possible : (ns : List ℕ) → All (λ n. n ≤ 5) ns → All Possible (plansFor ns)
 all-possible [] h = tt
 all-possible (n ∷ ns) h = (possible-for n (zeros 32) (zeros 1) none (h .0) refl (omega arith) (omega arith) tt, all-possible ns (h .1))
 
-pub in-order : (ns : List ℕ) (ls : List Link) → Paired Carried (plansFor ns) ls → Paired (λ n l. l .next .type ≡ n) ns ls
+pub in-order : (ns : List ℕ) (ls : List Link) → Paired Carried (plansFor ns) ls
+    → Paired (λ n l. (l .next .type ≡ n) × (isClient (l .start) ≡ leb 4 n)) ns ls
 in-order [] [] h = tt
 in-order [] (l ∷ ls) h = absurd h
 in-order (n ∷ ns) [] h = absurd h
-in-order (n ∷ ns) (l ∷ ls) h = (ap (λ (x : Next). x .type) (h .0 .next), in-order ns ls (h .1))
+in-order (n ∷ ns) (l ∷ ls) h = ((ap (λ (x : Next). x .type) (h .0 .next), h .0 .client), in-order ns ls (h .1))

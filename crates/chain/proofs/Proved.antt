@@ -1,7 +1,7 @@
--- The theorem of specs/Theorems.antt, from what is proved of a link, of two chains, and of plans.
+-- The theorem of specs/Theorems.antt, from what is proved of a link, of two chains, and of plans. The example is computed.
 use Prim.Native.Nat.{ℕ, _≤_}
 use mathlib.Core.Path.{_≡_, refl, sym, ap, _∙_}
-use mathlib.Core.Logic.{_⊎_, inl, inr, ⊎-map}
+use mathlib.Core.Logic.{_⊎_, inl, inr}
 use mathlib.Core.Option.{some}
 use mathlib.Core.List.{List}
 use lib.Dec.{eqb}
@@ -9,9 +9,8 @@ use lib.ListN.{length}
 use Rattle.rfc7693.specs.Rfc7693.{rotr, words, iv, sigma, added, xorRotated, G, workVector, round, rounds, F, input, blockAt, blockCount, leading, compressions, compressed, initial, blake2s}
 use Rattle.endian.specs.Endian.{word, firstBytes}
 use Rattle.record.specs.Record.{Contents, resetSeed, recordAt}
-use Rattle.handover.specs.Reset.{Next, measuredIdFor, written, HandedOver, resetting}
-use Rattle.handover.specs.Theorems.{Typed, Fitting, asked}
-use Rattle.handover.proofs.Numbers.{accepted-is}
+use Rattle.handover.specs.Reset.{Next, measuredIdFor, resetting}
+use Rattle.handover.specs.Theorems.{Typed, asked}
 use Rattle.handover.proofs.Proved.{handovers}
 use Rattle.head.specs.Answers.{Result}
 use Rattle.head.specs.Begin.{configOf, waitingWith, byType, beginning}
@@ -22,18 +21,21 @@ use Rattle.session.proofs.Resets.{config}
 use Rattle.session.proofs.Begins.{not-refused, client-waits}
 use Rattle.session.proofs.Proved.{sound}
 use Rattle.record.specs.declared.Digests.{Digests}
-use Rattle.head.specs.declared.Config.{Config}
 use Rattle.chain.specs.Theorems.{Begins, Example, Chains}
-use Rattle.chain.proofs.Links.{measured-length}
-use Rattle.chain.proofs.Ends.{folded, strings-are, same-starts, same-end}
+use Rattle.chain.proofs.Configs.{config-stays}
+use Rattle.chain.proofs.Ends.{folded, strings-are, same-starts, same-end, same-length}
 use Rattle.chain.proofs.Plans.{four-or-five, planned, first, planFor, possible-for, plansFor, all-possible, in-order}
 
-module _ (x : Next) (id : List ℕ) (h : Fitting x) (hi : length id ≡ 32) (R : Reset) (e : R .rec ≡ written x id) (a : Admitted R) where
+module _ (cdi seed : List ℕ) (x : Next) (memory : List ℕ) (t : Typed x) (k : resetting cdi seed x memory .number ≡ 0) (R : Reset)
+    (e : R .rec ≡ resetting cdi seed x memory .rec) (a : Admitted R) where
+  abbrev id : List ℕ
+  id = measuredIdFor (x .mask) cdi seed
+
   reads : recordAt (R .rec) ≡ asked x id
-  reads = ap recordAt e ∙ handovers .reads x id h hi
+  reads = ap recordAt e ∙ handovers .gives cdi seed x memory t k .reads
 
   type-is : typeOf (R .rec) ≡ x .type
-  type-is = ap typeOf e ∙ handovers .fields x id h hi .type
+  type-is = ap typeOf e ∙ handovers .gives cdi seed x memory t k .fields .type
 
   by-asked : begun R ≡ byType (asked x id) (R .udi) (R .flash) (R .ram) (R .uds)
   unfolding beginning
@@ -43,24 +45,21 @@ module _ (x : Next) (id : List ℕ) (h : Fitting x) (hi : length id ≡ 32) (R :
   recorded = asked x id .digests
 
   -- the config of types 4 and 5
-  abbrev wanted : ℕ → Config
-  wanted t =
-      record {
+  config-is : (n : ℕ) → (n ≡ 4) ⊎ (n ≡ 5)
+      → configOf (record { type = some n; resetSeed = resetSeed (x .mask); digests = recorded; measuredId = id }) (R .udi) (R .flash .builtIn) (length (R .ram))
+      ≡ record {
         «ram_len» = length (R .ram);
         «measured_id» = id;
         udi = R .udi;
         digests = recorded;
-        verify = eqb t 5;
+        verify = eqb n 5;
         chained = resetSeed (x .mask);
       }
-
-  config-is : (t : ℕ) → (t ≡ 4) ⊎ (t ≡ 5)
-      → configOf (record { type = some t; resetSeed = resetSeed (x .mask); digests = recorded; measuredId = id }) (R .udi) (R .flash .builtIn) (length (R .ram)) ≡ wanted t
-  config-is t (inl e) = rw e
-  config-is t (inr e) = rw e
+  config-is n (inl q) = rw q
+  config-is n (inr q) = rw q
 
   client : 4 ≤ x .type → (x .type ≡ 4) ⊎ (x .type ≡ 5)
-  client n = four-or-five (x .type) n (h .known)
+  client n = four-or-five (x .type) n (handovers .settles cdi seed x memory .accepts .0 k .0)
 
   waiting : 4 ≤ x .type → begun R ≡ waitingWith (config R) (R .ram) (R .uds)
   waiting n = client-waits R a (rw type-is (client n))
@@ -74,14 +73,8 @@ module _ (x : Next) (id : List ℕ) (h : Fitting x) (hi : length id ≡ 32) (R :
             ap (λ (y : Result). y .state .config) (waiting n)
             ∙ ap (λ (c : Contents). configOf c (R .udi) (R .flash .builtIn) (length (R .ram))) reads
             ∙ config-is (x .type) (client n);
+        stays = λ S q y i n. config-stays (S .calls) (begun (S .reset) .state) (i .before) (i .after) y (i .place) n ∙ ap (λ (Q : Reset). begun Q .state .config) q;
       }
-
-written-begins : (cdi seed : List ℕ) (x : Next) (room : List ℕ) → Typed x → resetting cdi seed x room .number ≡ 0
-    → (R : Reset) → R .rec ≡ resetting cdi seed x room .rec → Admitted R → Begins x (measuredIdFor (x .mask) cdi seed) R
-written-begins cdi seed x room typed k R e a =
-    let l = handovers .accepts cdi seed x room .0 k in
-    let w = ap (λ (y : HandedOver). y .rec) (accepted-is cdi seed x room k) in
-    begins x (measuredIdFor (x .mask) cdi seed) (record { typed = typed; known = l .0; data-length = l .4 }) (measured-length (x .mask) cdi seed) R (e ∙ w) a
 
 example : Example
 unfolding word rotr words firstBytes iv sigma added xorRotated G workVector round rounds F input blockAt blockCount leading compressions compressed initial blake2s
@@ -90,14 +83,15 @@ example = record { two-links = refl }
 pub chains : Chains
 chains =
     record {
-      begins = written-begins;
+      begins = begins;
       cdi = λ c. folded (basis (c .first) .uds) (c .first) (c .links) (c .linked);
+      example = example;
+      strings = λ c. strings-are (basis (c .first) .uds) (c .first) (c .links) (c .linked);
       injective = λ c c′ e.
           same-starts (c .links) (c′ .links)
           (strings-are (basis (c .first) .uds) (c .first) (c .links) (c .linked) ∙ e ∙ sym (strings-are (basis (c′ .first) .uds) (c′ .first) (c′ .links) (c′ .linked)));
-      same-end = λ c c′ n e.
-          ⊎-map (λ f. record { first-cdi = f .0; links = f .1; uds = f .2 }) (λ k. k)
-          (same-end (basis (c .first) .uds) (basis (c′ .first) .uds) (c .first) (c′ .first) (c .links) (c′ .links) (c .linked) (c′ .linked) n e);
+      same-end = λ c c′. same-end (basis (c .first) .uds) (basis (c′ .first) .uds) (c .first) (c′ .first) (c .links) (c′ .links) (c .linked) (c′ .linked);
+      same-length = λ c c′. same-length (basis (c .first) .uds) (basis (c′ .first) .uds) (c .first) (c′ .first) (c .links) (c′ .links) (c .linked) (c′ .linked);
       exists = λ t ps h.
           let r = planned (basis t .uds) (sound t .eight) (sound t .typed) t ps h in
           (record { first = t; links = r .0; linked = r .1 }, refl, r .2);
@@ -105,5 +99,4 @@ chains =
       orders = λ ns h.
           let r = planned (basis first .uds) (sound first .eight) (sound first .typed) first (plansFor ns) (all-possible ns h) in
           (record { first = first; links = r .0; linked = r .1 }, in-order ns (r .0) (r .2));
-      example = example;
     }

@@ -5,7 +5,7 @@ use Prim.Native.Nat.{ℕ, zero, suc, _+_, _*_, _/_, _%_, _^_, _<_, _≤_}
 use native.Mathlib.Nat.{le-of-suc-le-suc}
 use native.Mathlib.Omega.{arith}
 use lib.ListN.{length, getD, set, take, drop}
-use Rattle.endian.specs.Lists.{each}
+use Rattle.endian.specs.Lists.{each, zeros, Words}
 use Rattle.endian.specs.Endian.{word, byteOf, firstBytes}
 use Rattle.endian.proofs.Lists.{length-each, getD-each, copy-more}
 
@@ -46,3 +46,8 @@ rebuilt x h =
 pub word-back : (x : ℕ) → x < 2 ^ 32 → word (firstBytes 4 (x ∷ [])) 0 ≡ x
 unfolding word firstBytes
 word-back x h = let r = rebuilt x h in omega arith
+
+-- zeros are words
+pub zero-words : (n : ℕ) → Words (zeros n)
+zero-words zero = tt
+zero-words (suc n) = (omega arith, zero-words n)

@@ -9,7 +9,7 @@ use borrow.Author.Tests.{eq-eqb, ne-eqb, lt-ltb, le-ltb, eqb-true, eqb-false}
 use Rattle.endian.specs.Lists.{zeros}
 use Rattle.endian.proofs.Cases.{impossible}
 use Rattle.record.specs.Record.{dataField, hasSecond}
-use Rattle.handover.specs.Reset.{Next, measuredIdFor, written, inputsFit, resetRefusal, HandedOver, handedOver, resetting}
+use Rattle.handover.specs.Reset.{Next, measuredIdFor, writtenRecord, inputsFit, resetRefusal, HandedOver, handedOver, resetting}
 
 -- lengths that fit
 pub fit-lengths : (mask a b c : ℕ) → inputsFit mask a b c ≡ true → (a ≡ 32) × (b ≡ 32) × (c ≡ dataField (hasSecond mask) .size)
@@ -24,7 +24,7 @@ fit-lengths mask a b c = go (eqb a 32) (eqb b 32) (eqb c (dataField (hasSecond m
 
 module _ (cdi seed : List ℕ) (x : Next) (rec : List ℕ) where
   abbrev fit : Bool
-  fit = inputsFit (x .mask) (length cdi) (length seed) (length (x .appData))
+  fit = inputsFit (x .mask) (length cdi) (length seed) (length (x .nextData))
 
   pub by-type : 5 < x .type → resetting cdi seed x rec ≡ handedOver 44 cdi rec
   unfolding resetting
@@ -40,18 +40,18 @@ module _ (cdi seed : List ℕ) (x : Next) (rec : List ℕ) where
       unfolding resetting
       by-inputs h = rw (le-ltb 5 (x .type) t, eq-eqb (length rec) 256 r, h)
 
-      pub by-none : fit ≡ true → resetting cdi seed x rec ≡ handedOver 0 (zeros 32) (written x (measuredIdFor (x .mask) cdi seed))
+      pub by-none : fit ≡ true → resetting cdi seed x rec ≡ handedOver 0 (zeros 32) (writtenRecord x (measuredIdFor (x .mask) cdi seed))
       unfolding resetting
       by-none h = rw (le-ltb 5 (x .type) t, eq-eqb (length rec) 256 r, h)
 
 -- what an accepted reset gives
 pub accepted-is : (cdi seed : List ℕ) (x : Next) (rec : List ℕ) → resetting cdi seed x rec .number ≡ 0
-    → resetting cdi seed x rec ≡ handedOver 0 (zeros 32) (written x (measuredIdFor (x .mask) cdi seed))
+    → resetting cdi seed x rec ≡ handedOver 0 (zeros 32) (writtenRecord x (measuredIdFor (x .mask) cdi seed))
 unfolding resetting
-accepted-is cdi seed x rec = go (resetRefusal (x .type) (x .mask) (length rec) (length cdi) (length seed) (length (x .appData))) _ refl
+accepted-is cdi seed x rec = go (resetRefusal (x .type) (x .mask) (length rec) (length cdi) (length seed) (length (x .nextData))) _ refl
   where
     made : HandedOver
-    made = handedOver 0 (zeros 32) (written x (measuredIdFor (x .mask) cdi seed))
+    made = handedOver 0 (zeros 32) (writtenRecord x (measuredIdFor (x .mask) cdi seed))
 
     go : (k : ℕ) (b : Bool) → eqb k 0 ≡ b → cond b made (handedOver k cdi rec) .number ≡ 0 → cond b made (handedOver k cdi rec) ≡ made
     go k true p e = refl

@@ -2,7 +2,7 @@
 use Prim.Native.Nat.{ℕ, _+_, _≤_}
 use mathlib.Core.Path.{_≡_, refl, sym, ap, _∙_}
 use mathlib.Core.Bool.{Bool, true, false, cond}
-use mathlib.Core.List.{List, [], _∷_, _++_, append-assoc, append-nil}
+use mathlib.Core.List.{List, [], _∷_, _++_, append-nil, foldl}
 use native.Mathlib.Omega.{arith}
 use lib.ListN.{length, drop, length-append, length-drop}
 use lib.Seq.{take-at, drop-at}
@@ -10,7 +10,7 @@ use Rattle.endian.specs.Lists.{zeros}
 use Rattle.endian.proofs.Lists.{empty}
 use Rattle.endian.proofs.Words.{bytes-length}
 use Rattle.record.specs.Record.{Field, typeField, maskField, firstDigestField, measuredIdField, secondDigestField, dataField, hasSecond}
-use Rattle.handover.specs.Reset.{Next, nextOf, four, contents, put, putAll, written}
+use Rattle.handover.specs.Reset.{Next, nextOf, wordBytes, put, writtenRecord}
 
 pub from-size : (has : Bool) → dataField has .from + dataField has .size ≤ 256
 from-size true = omega arith
@@ -43,8 +43,11 @@ module _ (t m f i s d : List ℕ) (ht : length t ≡ 4) (hm : length m ≡ 4) (h
     rest-length = rw (length-drop, length-drop, length-drop, length-drop) (omega arith)
 
     -- the first four fields
-    fronted : putAll ((typeField, t) ∷ (maskField, m) ∷ (firstDigestField, f) ∷ (measuredIdField, i) ∷ []) rec ≡ front ++ z4
-    fronted =
+    abbrev fronted : List ℕ
+    fronted = put measuredIdField i (put firstDigestField f (put maskField m (put typeField t rec)))
+
+    fronted-is : fronted ≡ front ++ z4
+    fronted-is =
         let e2 : put maskField m (t ++ z1) ≡ t ++ m ++ drop 4 z1 = next maskField t z1 m ht in
         let e3 : put firstDigestField f (t ++ m ++ drop 4 z1) ≡ t ++ m ++ f ++ drop 32 (drop 4 z1) =
         next firstDigestField (t ++ m) (drop 4 z1) f (rw length-append (omega arith)) in
@@ -52,45 +55,64 @@ module _ (t m f i s d : List ℕ) (ht : length t ≡ 4) (hm : length m ≡ 4) (h
         next measuredIdField (t ++ m ++ f) (drop 32 (drop 4 z1)) i (rw (length-append, length-append) (omega arith)) in
         ap (λ (x : List ℕ). put measuredIdField i (put firstDigestField f x)) e2 ∙ ap (put measuredIdField i) e3 ∙ e4
 
+    -- and the rest
     pub whole : (has : Bool) → length d ≡ dataField has .size
-        → putAll ((typeField, t) ∷ (maskField, m) ∷ (firstDigestField, f) ∷ (measuredIdField, i) ∷ (secondDigestField, s) ∷ (dataField has, d) ∷ []) rec
-        ≡ front ++ cond has s [] ++ d
-    whole has hd = ap (λ (x : List ℕ). put (dataField has) d (put secondDigestField s x)) fronted ∙ ap (put (dataField has) d) (next secondDigestField front z4 s front-length) ∙ go has
+        → put (dataField has) d (cond has (put secondDigestField s fronted) fronted) ≡ front ++ cond has s [] ++ d
+    whole has hd = ap (λ (x : List ℕ). put (dataField has) d (cond has (put secondDigestField s x) x)) fronted-is ∙ go has
       where
         behind : length (drop 32 z4) ≡ 152
         behind = length-drop 32 z4 ∙ omega (arith, rest-length)
 
-        go : (has : Bool) → put (dataField has) d (front ++ s ++ drop 32 z4) ≡ front ++ cond has s [] ++ d
-        go true = last (dataField true) (front ++ s) (drop 32 z4) d (length-append front s ∙ omega (arith, front-length)) behind
-        go false =
-            ap (put (dataField false) d) (append-assoc front s (drop 32 z4))
-            ∙ last (dataField false) front (s ++ drop 32 z4) d front-length (length-append s (drop 32 z4) ∙ omega (arith, behind))
-            ∙ ap (λ (x : List ℕ). x ++ d) (sym (append-nil front))
+        go : (has : Bool) → put (dataField has) d (cond has (put secondDigestField s (front ++ z4)) (front ++ z4)) ≡ front ++ cond has s [] ++ d
+        go true =
+            ap (put (dataField true) d) (next secondDigestField front z4 s front-length)
+            ∙ last (dataField true) (front ++ s) (drop 32 z4) d (length-append front s ∙ omega (arith, front-length)) behind
+        go false = last (dataField false) front z4 d front-length rest-length ∙ ap (λ (x : List ℕ). x ++ d) (sym (append-nil front))
 
-pub four-length : (n : ℕ) → length (four n) ≡ 4
-four-length n = bytes-length 4 (n ∷ [])
+pub word-length : (n : ℕ) → length (wordBytes n) ≡ 4
+word-length n = bytes-length 4 (n ∷ [])
 
--- each byte of the record is written: what was there before does not matter
-pub any-record : (x : Next) (id rec : List ℕ) → length (x .first) ≡ 32 → length id ≡ 32 → length (x .second) ≡ 32
-    → length (x .appData) ≡ dataField (hasSecond (x .mask)) .size → length rec ≡ 256 → putAll (contents x id) rec ≡ written x id
-unfolding written
-any-record x id rec hf hi hs hd hr =
-    let w : (r : List ℕ) → length r ≡ 256 → putAll (contents x id) r ≡ _ =
-    λ r h. whole (four (x .type)) (four (x .mask)) (x .first) id (x .second) (x .appData) (four-length (x .type)) (four-length (x .mask)) hf hi hs r h (hasSecond (x .mask)) hd in
-    w rec hr ∙ sym (w (zeros 256) refl)
+-- the fields one behind the other, and each byte of the record is written: what was there before does not matter
+module _ (x : Next) (id : List ℕ) (hf : length (x .first) ≡ 32) (hi : length id ≡ 32) (hs : length (x .second) ≡ 32)
+    (hd : length (x .nextData) ≡ dataField (hasSecond (x .mask)) .size) where
+  abbrev has : Bool
+  has = hasSecond (x .mask)
+
+  abbrev stores : Bool → List ℕ → List ℕ
+  stores b rec =
+      let r = put measuredIdField id (put firstDigestField (x .first) (put maskField (wordBytes (x .mask)) (put typeField (wordBytes (x .type)) rec))) in
+      put (dataField b) (x .nextData) (cond b (put secondDigestField (x .second) r) r)
+
+  joins : (rec : List ℕ) → length rec ≡ 256
+      → stores has rec ≡ wordBytes (x .type) ++ wordBytes (x .mask) ++ x .first ++ id ++ cond has (x .second) [] ++ x .nextData
+  joins rec hr =
+      whole (wordBytes (x .type)) (wordBytes (x .mask)) (x .first) id (x .second) (x .nextData) (word-length (x .type)) (word-length (x .mask)) hf hi hs rec hr has hd
+
+  written-is : writtenRecord x id ≡ stores has (zeros 256)
+  unfolding writtenRecord
+  written-is = go has
+    where
+      go : (b : Bool)
+          → foldl (λ (rec : List ℕ) (c : Field × List ℕ). put (c .0) (c .1) rec) (zeros 256) ((typeField, wordBytes (x .type)) ∷ (maskField, wordBytes (x .mask)) ∷ (firstDigestField, x .first) ∷ (measuredIdField, id) ∷ [] ++ cond b ((secondDigestField, x .second) ∷ []) [] ++ (dataField b, x .nextData) ∷ [])
+          ≡ stores b (zeros 256)
+      go true = refl
+      go false = refl
+
+  pub parts : writtenRecord x id ≡ wordBytes (x .type) ++ wordBytes (x .mask) ++ x .first ++ id ++ cond has (x .second) [] ++ x .nextData
+  parts = written-is ∙ joins (zeros 256) refl
+
+  pub any-record : (rec : List ℕ) → length rec ≡ 256 → stores has rec ≡ writtenRecord x id
+  any-record rec hr = joins rec hr ∙ sym parts
 
 -- six stores, one after the other
-module _ (type mask : ℕ) (first id second appData : List ℕ) (hf : length first ≡ 32) (hi : length id ≡ 32) (hs : length second ≡ 32) where
-  abbrev asked : Next
-  asked = nextOf type mask first second appData
-
-  pub stored : (o0 o1 o2 o3 o4 o5 o6 : List ℕ) (from : ℕ) → length o0 ≡ 256 → length appData ≡ dataField (hasSecond mask) .size
-      → from ≡ dataField (hasSecond mask) .from → o1 ≡ put typeField (four type) o0 → o2 ≡ put maskField (four mask) o1
+module _ (type mask : ℕ) (first id second nextData : List ℕ) (hf : length first ≡ 32) (hi : length id ≡ 32) (hs : length second ≡ 32) where
+  pub stored : (o0 o1 o2 o3 o4 o5 o6 : List ℕ) (from : ℕ) → length o0 ≡ 256 → length nextData ≡ dataField (hasSecond mask) .size
+      → from ≡ dataField (hasSecond mask) .from → o1 ≡ put typeField (wordBytes type) o0 → o2 ≡ put maskField (wordBytes mask) o1
       → o3 ≡ put (record { from = 8; size = length first }) first o2 → o4 ≡ put (record { from = 40; size = length id }) id o3
-      → o5 ≡ put (record { from = 72; size = length second }) second o4
-      → o6 ≡ put (record { from = from; size = length appData }) appData o5 → o6 ≡ written asked id
+      → o5 ≡ cond (hasSecond mask) (put secondDigestField second o4) o4
+      → o6 ≡ put (record { from = from; size = length nextData }) nextData o5 → o6 ≡ writtenRecord (nextOf type mask first second nextData) id
   stored o0 o1 o2 o3 o4 o5 o6 from h0 hd hw e1 e2 e3 e4 e5 e6 =
-      rw (e6, e5, e4, e3, e2, e1, hf, hi, hs, hd, hw) (any-record asked id o0 hf hi hs hd h0)
+      rw (e6, e5, e4, e3, e2, e1, hf, hi, hd, hw) (any-record (nextOf type mask first second nextData) id hf hi hs hd o0 h0)
 
 -- CDI and seed in a buffer of 64 bytes
 module _ (cdi seed : List ℕ) (hc : length cdi ≡ 32) (hs : length seed ≡ 32) where

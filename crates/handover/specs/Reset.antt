@@ -2,7 +2,7 @@
 -- written by the table of fields that begin reads (`record`, specs/Record.antt).
 use Prim.Native.Nat.{ℕ}
 use mathlib.Core.Bool.{Bool, not, cond, _&&_}
-use mathlib.Core.List.{List, [], _∷_, _++_}
+use mathlib.Core.List.{List, [], _∷_, _++_, foldl}
 use lib.Dec.{eqb, ltb}
 use lib.ListN.{length, take, drop}
 use Rattle.rfc7693.specs.Rfc7693.{blake2s}
@@ -27,53 +27,50 @@ pub record Next : Type 0 where
   pub first : List ℕ
   -- not written where mask bit 1 is clear
   pub second : List ℕ
-  pub appData : List ℕ
+  pub nextData : List ℕ
 
 abbrev pub nextOf : ℕ → ℕ → List ℕ → List ℕ → List ℕ → Next
-nextOf type mask first second appData = record { type = type; mask = mask; first = first; second = second; appData = appData }
+nextOf type mask first second nextData = record { type = type; mask = mask; first = first; second = second; nextData = nextData }
 
--- CDI, then seed (source document 002: measured_id_seed)
+-- the hash of the CDI, then the seed (source document 002: measured_id_seed)
 abbrev pub mixed : List ℕ → List ℕ → List ℕ
 mixed cdi seed = blake2s [] (cdi ++ seed) 32
 
--- with RESET_SEED; without it zeros
+-- measured_id: with RESET_SEED that hash, without it zeros
 abbrev pub measuredIdFor : ℕ → List ℕ → List ℕ → List ℕ
 measuredIdFor mask cdi seed = cond (resetSeed mask) (mixed cdi seed) (zeros 32)
 
 -- a number of 32 bits, lowest byte first
-abbrev pub four : ℕ → List ℕ
-four n = firstBytes 4 (n ∷ [])
+abbrev pub wordBytes : ℕ → List ℕ
+wordBytes n = firstBytes 4 (n ∷ [])
 
--- the fields, each with what is written there. The mask is written as it is given. Where there is no second digest the data covers its place
+-- the fields, each with what is written there; all bits of the mask are written as they are given
 abbrev pub contents : Next → List ℕ → List (Field × List ℕ)
 contents x measuredId =
-    (typeField, four (x .type)) ∷
-    (maskField, four (x .mask)) ∷
+    let has = hasSecond (x .mask) in
+    (typeField, wordBytes (x .type)) ∷
+    (maskField, wordBytes (x .mask)) ∷
     (firstDigestField, x .first) ∷
-    (measuredIdField, measuredId) ∷
-    (secondDigestField, x .second) ∷
-    (dataField (hasSecond (x .mask)), x .appData) ∷ []
+    (measuredIdField, measuredId) ∷ []
+    ++ cond has ((secondDigestField, x .second) ∷ []) []
+    ++ (dataField has, x .nextData) ∷ []
 
 -- a record with other bytes in a field
 abbrev pub put : Field → List ℕ → List ℕ → List ℕ
 put f bytes rec = take (f .from) rec ++ bytes ++ drop (f .size) (drop (f .from) rec)
 
-abbrev pub putAll : List (Field × List ℕ) → List ℕ → List ℕ
-putAll [] rec = rec
-putAll (c ∷ cs) rec = putAll cs (put (c .0) (c .1) rec)
-
 -- nothing of an earlier record is left
-unfoldable pub written : Next → List ℕ → List ℕ
-written x measuredId = putAll (contents x measuredId) (zeros 256)
+unfoldable pub writtenRecord : Next → List ℕ → List ℕ
+writtenRecord x measuredId = foldl (λ rec c. put (c .0) (c .1) rec) (zeros 256) (contents x measuredId)
 
 -- the lengths of CDI, seed and data
 abbrev pub inputsFit : ℕ → ℕ → ℕ → ℕ → Bool
-inputsFit mask cdi seed appData = eqb cdi 32 && (eqb seed 32 && eqb appData (dataField (hasSecond mask) .size))
+inputsFit mask cdi seed nextData = eqb cdi 32 && (eqb seed 32 && eqb nextData (dataField (hasSecond mask) .size))
 
 -- the lowest refusal that applies, 0 for none, by type and mask and the lengths of the record, CDI, seed and data
 abbrev pub resetRefusal : ℕ → ℕ → ℕ → ℕ → ℕ → ℕ → ℕ
-resetRefusal type mask rec cdi seed appData =
-    cond (ltb 5 type) 44 (cond (not (eqb rec 256)) 45 (cond (not (inputsFit mask cdi seed appData)) 46 0))
+resetRefusal type mask rec cdi seed nextData =
+    cond (ltb 5 type) 44 (cond (not (eqb rec 256)) 45 (cond (not (inputsFit mask cdi seed nextData)) 46 0))
 
 -- all that a reset settles: its number, and what CDI and record then hold
 pub record HandedOver : Type 0 where
@@ -87,5 +84,5 @@ handedOver number cdi rec = record { number = number; cdi = cdi; rec = rec }
 -- a refused reset leaves both; otherwise the CDI is zeros, and the record the next start's
 unfoldable pub resetting : List ℕ → List ℕ → Next → List ℕ → HandedOver
 resetting cdi seed x rec =
-    let k = resetRefusal (x .type) (x .mask) (length rec) (length cdi) (length seed) (length (x .appData)) in
-    cond (eqb k 0) (handedOver 0 (zeros 32) (written x (measuredIdFor (x .mask) cdi seed))) (handedOver k cdi rec)
+    let k = resetRefusal (x .type) (x .mask) (length rec) (length cdi) (length seed) (length (x .nextData)) in
+    cond (eqb k 0) (handedOver 0 (zeros 32) (writtenRecord x (measuredIdFor (x .mask) cdi seed))) (handedOver k cdi rec)

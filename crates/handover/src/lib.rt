@@ -1,12 +1,13 @@
-// The reset call: a running program hands over to the next one. It writes the record of the next start, which begin then reads, and leaves no
-// CDI behind.
+// The reset call: a running program hands over to the next one. It writes the record of the next start, which begin then reads, and zeroes the
+// CDI that it is lent.
 // Change request 7 and source document 002, RESET, in the terms of specs/Reset.antt.
 ghost use mathlib.Core.Path.{_≡_};
+ghost use mathlib.Core.Bool.{cond};
 ghost use Prim.Native.Nat.{_+_, _≤_};
 ghost use lib.ListN.{length};
 ghost use Rattle.endian.specs.Lists.{zeros};
-ghost use Rattle.record.specs.Record.{dataField, hasSecond};
-ghost use Rattle.handover.specs.Reset.{numberOf, nextOf, mixed, measuredIdFor, four, put, written, inputsFit, handedOver, resetting};
+ghost use Rattle.record.specs.Record.{secondDigestField, dataField, hasSecond};
+ghost use Rattle.handover.specs.Reset.{numberOf, nextOf, mixed, measuredIdFor, wordBytes, put, writtenRecord, inputsFit, handedOver, resetting};
 
 // What a reset answers: it was accepted, or the reason why it was refused and changed nothing.
 pub enum Answer {
@@ -30,11 +31,11 @@ fn data_from(mask: u32) -> usize
 }
 
 // Whether CDI, seed and data have the lengths that they must have.
-fn inputs_fit(mask: u32, cdi: usize, seed: usize, data: usize) -> bool
-    ensures { λ r. ⌜ r ≡ inputsFit mask cdi seed «data» ⌝ }
+fn inputs_fit(mask: u32, cdi: usize, seed: usize, next_data: usize) -> bool
+    ensures { λ r. ⌜ r ≡ inputsFit mask cdi seed «next_data» ⌝ }
 {
     let size = 256 - data_from(mask);
-    (cdi == 32) & ((seed == 32) & (data == size))
+    (cdi == 32) & ((seed == 32) & (next_data == size))
 }
 
 // Writes bytes from a place on.
@@ -49,7 +50,7 @@ fn put(out: &mut [u8], from: usize, bytes: &[u8])
 // Writes a number of 32 bits from a place on, lowest byte first.
 fn put_number(out: &mut [u8], from: usize, n: u32)
     requires { ⌜ from + 4 ≤ length (now out) ⌝ }
-    ensures { λ _. ⌜ now (out .exit) ≡ put (record { from = from; size = 4 }) (four n) (now (out .entry)) ⌝ }
+    ensures { λ _. ⌜ now (out .exit) ≡ put (record { from = from; size = 4 }) (wordBytes n) (now (out .entry)) ⌝ }
 {
     let words = [n];
     endian::write_bytes(&words, &mut out[from..from + 4]);
@@ -69,6 +70,7 @@ fn mix(cdi: &[u8], seed: &[u8]) -> [u8; 32]
     d
 }
 
+// measured_id of the next record.
 fn measured_id(mask: u32, cdi: &[u8], seed: &[u8]) -> [u8; 32]
     requires { ⌜ (length (now cdi) ≡ 32) × (length (now seed) ≡ 32) ⌝ }
     ensures { λ r. ⌜ r ≡ measuredIdFor mask (now (cdi .entry)) (now (seed .entry)) ⌝ }
@@ -79,7 +81,17 @@ fn measured_id(mask: u32, cdi: &[u8], seed: &[u8]) -> [u8; 32]
     [0; 32]
 }
 
-// Writes a whole record. Where there is no second digest, the data covers its place.
+// Writes the second digest, if there is one.
+fn put_second(out: &mut [u8], mask: u32, second: [u8; 32])
+    requires { ⌜ length (now out) ≡ 256 ⌝ }
+    ensures { λ _. ⌜ now (out .exit) ≡ cond (hasSecond mask) (put secondDigestField second (now (out .entry))) (now (out .entry)) ⌝ }
+{
+    if mask / 2 % 2 == 1 {
+        put(out, 72, &second);
+    }
+}
+
+// Writes a whole record.
 fn write(
     out: &mut [u8],
     next_type: u32,
@@ -87,19 +99,20 @@ fn write(
     first: [u8; 32],
     measured_id: [u8; 32],
     second: [u8; 32],
-    data: &[u8],
+    next_data: &[u8],
 )
-    requires { ⌜ (length (now out) ≡ 256) × (length (now «data») ≡ dataField (hasSecond mask) .size) ⌝ }
-    ensures { λ _. ⌜ now (out .exit) ≡ written (nextOf «next_type» mask first second (now («data» .entry))) «measured_id» ⌝ }
+    requires { ⌜ (length (now out) ≡ 256) × (length (now «next_data») ≡ dataField (hasSecond mask) .size) ⌝ }
+    ensures { λ _. ⌜ now (out .exit) ≡ writtenRecord (nextOf «next_type» mask first second (now («next_data» .entry))) «measured_id» ⌝ }
 {
     put_number(out, 0, next_type);
     put_number(out, 4, mask);
     put(out, 8, &first);
     put(out, 40, &measured_id);
-    put(out, 72, &second);
-    put(out, data_from(mask), data);
+    put_second(out, mask, second);
+    put(out, data_from(mask), next_data);
 }
 
+// Zeroes a CDI.
 fn clear(bytes: &mut [u8])
     requires { ⌜ length (now bytes) ≡ 32 ⌝ }
     ensures { λ _. ⌜ now (bytes .exit) ≡ zeros 32 ⌝ }
@@ -108,8 +121,7 @@ fn clear(bytes: &mut [u8])
     bytes::copy(&none, bytes);
 }
 
-// Hands over to the next program: writes the record of its start, and leaves no CDI. The second digest is written only where mask bit 1 says that
-// there is one.
+// Hands over to the next program: writes the record of its start, and zeroes the CDI.
 pub fn reset(
     cdi: &mut [u8],
     seed: &[u8],
@@ -117,10 +129,10 @@ pub fn reset(
     mask: u32,
     first: [u8; 32],
     second: [u8; 32],
-    data: &[u8],
+    next_data: &[u8],
     record: &mut [u8],
 ) -> Answer
-    ensures { λ r. ⌜ handedOver (numberOf r) (now (cdi .exit)) (now («record» .exit)) ≡ resetting (now (cdi .entry)) (now (seed .entry)) (nextOf «next_type» mask first second (now («data» .entry))) (now («record» .entry)) ⌝ }
+    ensures { λ r. ⌜ handedOver (numberOf r) (now (cdi .exit)) (now («record» .exit)) ≡ resetting (now (cdi .entry)) (now (seed .entry)) (nextOf «next_type» mask first second (now («next_data» .entry))) (now («record» .entry)) ⌝ }
 {
     if 5 < next_type {
         return Answer::NextType;
@@ -128,11 +140,11 @@ pub fn reset(
     if record.len() != 256 {
         return Answer::RecordLength;
     }
-    if !inputs_fit(mask, cdi.len(), seed.len(), data.len()) {
+    if !inputs_fit(mask, cdi.len(), seed.len(), next_data.len()) {
         return Answer::InputLength;
     }
     let id = measured_id(mask, cdi, seed);
-    write(record, next_type, mask, first, id, second, data);
+    write(record, next_type, mask, first, id, second, next_data);
     clear(cdi);
     Answer::Accepted
 }

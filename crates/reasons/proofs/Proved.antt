@@ -1,5 +1,5 @@
 -- The theorem of specs/Theorems.antt.
-use Prim.Native.Nat.{ℕ, zero, suc, _+_, _^_, _<_, _≤_}
+use Prim.Native.Nat.{ℕ, _+_, _^_, _<_, _≤_}
 use mathlib.Core.Path.{_≡_, refl, sym, ap, _∙_, subst}
 use mathlib.Core.Logic.{_↔_, _⊎_, inl, inr, ⊎-elim}
 use mathlib.Core.Bool.{true, false}
@@ -8,6 +8,7 @@ use native.Mathlib.Omega.{arith}
 use lib.ListN.{length, take, drop, take-append-drop, length-append, length-replicate}
 use lib.Seq.{take-append-seam}
 use borrow.Author.Tests.{lt-ltb}
+use Rattle.endian.proofs.Words.{zero-words}
 use Rattle.endian.specs.Lists.{zeros, All, Words}
 use Rattle.record.specs.Record.{recordAt}
 use Rattle.head.specs.Answers as head
@@ -138,10 +139,6 @@ module _ (R : Reset) (lent : Admitted R) (client : AsksClient R) where
     claims-heard = tells ram (callsFor uds typed bytes (begun R .state) ram) bytes (heard-by .hears) (heard-by .one-ram) .claims
 
 -- ---- the reason holds
-
-zero-words : (n : ℕ) → Words (zeros n)
-zero-words zero = tt
-zero-words (suc n) = (omega arith, zero-words n)
 
 -- a head with this record and a RAM of zeros
 abbrev resetOf : List ℕ → ℕ → Reset

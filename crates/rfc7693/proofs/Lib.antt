@@ -1,3 +1,4 @@
+pub mod Lengths
 pub mod Table
 pub mod Orders
 pub mod Vectors

@@ -9,6 +9,7 @@ use lib.Dec.{eqb}
 use lib.ListN.{length, getD, take, replicate, length-drop}
 use lib.Seq.{take-at}
 use borrow.Author.Tests.{eqb-true, eqb-false, eq-eqb, ne-eqb}
+use Rattle.rfc7693.proofs.Lengths.{digest-length}
 use Rattle.rfc7693.specs.Rfc7693.{blake2s}
 use Rattle.endian.specs.Endian.{bytes}
 use Rattle.cdi.specs.Cdi.{cdiString}
@@ -34,7 +35,6 @@ use Rattle.session.specs.Boot.{Start}
 use Rattle.session.specs.Client.{actings, frame, framesTo, frames, programDigest, Made, ReceivesFrames, Replied, Loads, ClientLoad}
 use Rattle.session.proofs.Resets.{ReadsOn, AllowedOn}
 use Rattle.session.proofs.Acting.{Leaves, ReplyTo, to-query, to-load, to-block, Replies}
-use Rattle.session.proofs.Strings.{digest-length}
 use Rattle.session.proofs.Proved.{one-reading, one-last, first-live, begins, gives, session, sent-accepted, all-acted}
 use Rattle.session.proofs.Calls.{ends-whole, Live, not-live, AfterGather, unfinished, complete, bad-header, AfterAct, goes-on, has-started, has-stopped}
 use Rattle.session.proofs.Entries.{lastFrom, last-from, number-zero, nothing-started}

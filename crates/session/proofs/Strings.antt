@@ -5,9 +5,9 @@ use mathlib.Core.Bool.{Bool, true, false, cond}
 use mathlib.Core.Option.{none, some}
 use mathlib.Core.List.{List, [], _∷_}
 use native.Mathlib.Omega.{arith}
-use lib.ListN.{length, getD, take, drop, length-take, length-drop}
+use lib.ListN.{length, getD, drop, length-take, length-drop}
 use lib.Seq.{ext-getD}
-use Rattle.rfc7693.specs.Rfc7693.{initial, compressions, compressed, blake2s}
+use Rattle.rfc7693.proofs.Lengths.{digest-length}
 use Rattle.endian.specs.Endian.{bytes, firstBytes}
 use Rattle.endian.proofs.Lists.{getD-each}
 use Rattle.endian.proofs.Words.{bytes-length, rebuilt}
@@ -48,16 +48,6 @@ same-words h h′ l l′ w w′ e =
     four-bytes (getD h k 0) (getD h′ k 0) (word-below h w k n) (word-below h′ w′ k (omega arith)) (at 0 (omega arith)) (at 1 (omega arith)) (at 2 (omega arith)) (at 3 (omega arith)))
 
 -- ---- lengths
-
-pub digest-length : (msg : List ℕ) → length (blake2s [] msg 32) ≡ 32
-unfolding blake2s
-digest-length msg = first-32 (bytes (state msg)) (bytes-length 32 (state msg))
-  where
-    state : List ℕ → List ℕ
-    state m = compressed (initial 0 32) (compressions [] m)
-
-    first-32 : (l : List ℕ) → length l ≡ 32 → length (take 32 l) ≡ 32
-    first-32 l e = length-take 32 l ∙ omega arith
 
 id-length : (rec : List ℕ) → length rec ≡ 256 → length (measuredId rec) ≡ 32
 id-length rec l = length-take 32 (drop 40 rec) ∙ omega (arith, length-drop 40 rec)

@@ -5,7 +5,7 @@ use mathlib.Core.List.{append-assoc}
 use native.Mathlib.Omega.{arith}
 use lib.ListN.{length, take, drop, length-drop}
 use lib.Seq.{length-take-le}
-use Rattle.handover.specs.Reset.{four}
+use Rattle.handover.specs.Reset.{wordBytes}
 use borrow.Author.Needs.{needs}
 use Rattle.handover.proofs.put_number.Statement.{statement}
 use Rattle.handover.proofs.put_number.Tie as tie
@@ -19,7 +19,7 @@ returns c =
     let o = a .out .now in
     let n : f + 4 - f ≡ 4 = omega arith in
     let l : length (take 4 (drop f o)) ≡ 4 = length-take-le 4 (drop f o) (rw length-drop (omega (arith, z .pre))) in
-    rw (k .write-bytes .ensures, n, l) (sym (append-assoc (take f o) (four (a .n)) (drop 4 (drop f o))))
+    rw (k .write-bytes .ensures, n, l) (sym (append-assoc (take f o) (wordBytes (a .n)) (drop 4 (drop f o))))
 
 pub put-number-spec : {M : Type 1} → statement M
 put-number-spec =

@@ -27,11 +27,11 @@ module _ (c : tie.Else3) where
   abbrev start : tie.Start
   start = c .before .before .before .before .before .before .before .before
 
-  fits : inputsFit (start .args .mask) (length (start .args .cdi .now)) (length (start .args .seed .now)) (length (start .args .«data» .now)) ≡ true
+  fits : inputsFit (start .args .mask) (length (start .args .cdi .now)) (length (start .args .seed .now)) (length (start .args .next-data .now)) ≡ true
   fits = sym (c .before .inputs-fit .ensures) ∙ not-false (c .before .inputs-fit .result) (c .if3 .left)
 
-  abbrev sizes : (length (start .args .cdi .now) ≡ 32) × (length (start .args .seed .now) ≡ 32) × (length (start .args .«data» .now) ≡ dataField (hasSecond (start .args .mask)) .size)
-  sizes = let a = start .args in fit-lengths (a .mask) (length (a .cdi .now)) (length (a .seed .now)) (length (a .«data» .now)) fits
+  abbrev sizes : (length (start .args .cdi .now) ≡ 32) × (length (start .args .seed .now) ≡ 32) × (length (start .args .next-data .now) ≡ dataField (hasSecond (start .args .mask)) .size)
+  sizes = let a = start .args in fit-lengths (a .mask) (length (a .cdi .now)) (length (a .seed .now)) (length (a .next-data .now)) fits
 
 measured-id-requires : tie.Need-measured-id-requires
 measured-id-requires c κs = let l = sizes (c .before) in (l .0, l .1)
