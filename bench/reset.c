@@ -1,6 +1,6 @@
 /*
- * The reset call of include/mastfrap.h as ordinary C, for bench/firmware.sh. With head.c and reference.c it is a library that tests/c_head.py and
- * tests/c_chain.py can be given: broken by hand, it shows that they fail.
+ * The reset call of include/mastfrap.h as ordinary C, for bench/firmware.sh. With head.c and reference.c it is a library that
+ * tests/c_head.py and tests/c_chain.py are given too: a mistake put into it must make them fail.
  */
 #include <stddef.h>
 #include <stdint.h>

@@ -189,8 +189,10 @@ enum {
  *
  * The reset record has 256 bytes: 0 to 3 the type, 4 to 7 the mask, both lowest byte first; 8 to 39 the
  * first allowed digest, 40 to 71 measured_id, and, if mask bit 1 is set, 72 to 103 the second allowed
- * digest; the rest is not read. Mask bit 0 is RESET_SEED, and bits 2 to 31 are ignored. Types 2, 3 and 5
- * allow the record's digests, type 0 the one that is built in, and types 1 and 4 any.
+ * digest. The rest, from 72 on or, if that bit is set, from 104 on, is data for the next program: no call
+ * reads it, and begin leaves the record as it was, so hand it over yourself. Mask bit 0 is RESET_SEED, and
+ * bits 2 to 31 are ignored. Types 0 and 2 load slot 0, 1 and 3 slot 1, 4 and 5 what the server sends; types
+ * 2, 3 and 5 allow the record's digests, type 0 the one that is built in, and types 1 and 4 any.
  *
  * The device secret (UDS) is eight words, each four of its bytes, lowest first: where its first byte is
  * 0x11, the lowest byte of uds[0] is. It is read only at a start, and each word is 0 after it. What a call
@@ -240,6 +242,19 @@ uint32_t mastfrap_act(uint32_t numbers[MASTFRAP_STATE_NUMBERS], uint8_t bytes[MA
                       uint32_t *uds, mastfrap_size uds_len, uint32_t *reply_len, uint32_t start[2],
                       uint8_t cdi[MASTFRAP_CDI_BYTES], uint8_t digest[MASTFRAP_DIGEST_BYTES]);
 
+/* What a reset is asked for: types and mask bits of the next record. */
+enum {
+    MASTFRAP_TYPE_FLASH0 = 0,
+    MASTFRAP_TYPE_FLASH1 = 1,
+    MASTFRAP_TYPE_FLASH0_VER = 2,
+    MASTFRAP_TYPE_FLASH1_VER = 3,
+    MASTFRAP_TYPE_CLIENT = 4,
+    MASTFRAP_TYPE_CLIENT_VER = 5,
+
+    MASTFRAP_MASK_RESET_SEED = 1,
+    MASTFRAP_MASK_SECOND_DIGEST = 2
+};
+
 /* What a reset answers. */
 enum {
     MASTFRAP_RESET_ACCEPTED = 0,
@@ -254,10 +269,12 @@ enum {
 
 /*
  * Hands over to the next program: writes the reset record from which the next begin starts it, by the layout
- * above, and clears the CDI. It needs no state: the running program asks for it, after a start.
+ * above, and clears the CDI. It needs no state: the running program asks for it, after a start. cdi is that
+ * program's, as begin or act gave it at its start, kept where the program cannot write.
  *
  * Unless the call is refused, record holds next_type, the mask with all of its 32 bits, first, measured_id,
- * second if mask bit 1 is set, and next_data, which fills the rest: 152 bytes with that bit, and 184 without it.
+ * second if mask bit 1 is set, and next_data, which fills the rest: 152 bytes with that bit, and 184
+ * without it; fill shorter data with zeros.
  * With mask bit 0 (RESET_SEED) measured_id is the BLAKE2s digest of the 32 bytes at cdi and then the 32 at
  * seed: from it, the device secret and the user secret, if there is one, comes the CDI of the next start,
  * whatever the next program is. Without it measured_id is 32 zeros, and the next CDI that of a direct start.
@@ -265,8 +282,7 @@ enum {
  *
  * What the call leaves on the stack is not cleared: the CDI can be found there.
  *
- * More that the proof takes the caller's word for: second is good for 32 bytes, also where it is not used.
- * cdi and record overlap neither each other nor seed, first, second and next_data.
+ * second is good for 32 bytes also where mask bit 1 is clear.
  */
 uint32_t mastfrap_reset(uint8_t *cdi, mastfrap_size cdi_len, const uint8_t *seed, mastfrap_size seed_len,
                         uint32_t next_type, uint32_t mask, const uint8_t first[MASTFRAP_DIGEST_BYTES],

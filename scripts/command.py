@@ -108,9 +108,9 @@ def front(data):
     return fd
 
 
-def run(program, words, places):
-    """Runs a program with these words, and with the descriptor places[n] as its descriptor n: the number that it writes to descriptor 3. It
-    ends with the command."""
+def run(name, program, words, places):
+    """Runs the program of a command with these words, and with the descriptor places[n] as its descriptor n: the number that it writes to
+    descriptor 3. It ends with the command."""
     out, number = os.pipe()
     high = {place: fcntl.fcntl(fd, fcntl.F_DUPFD_CLOEXEC, 10) for place, fd in {**places, 3: number}.items()}
     actions = [(os.POSIX_SPAWN_DUP2, fd, place) for place, fd in high.items()]
@@ -127,7 +127,7 @@ def run(program, words, places):
     finally:
         os.kill(child, signal.SIGKILL)
         os.waitpid(child, 0)
-    return int(digits) if digits else fail(FAILED, f"{os.path.basename(program)}: the program died")
+    return int(digits) if digits else fail(FAILED, f"{name}: the program died")
 
 
 def hold_streams():

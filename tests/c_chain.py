@@ -3,8 +3,8 @@
 head, which starts the next one, from flash or in a client's session, and so on. After each start the CDI must be that of a fold by
 hashlib, which gets the first CDI, and for each link seed, device secret and user secret, if there is one.
 
-Then chains are played again: where a seed, a user secret or a device secret of one link is another, the last CDI must be another too;
-where all the rest is, it must be the same. And a link without RESET_SEED makes the CDI that of a direct start.
+Then chains are played again: where the first program is another, or a seed, a user secret or a device secret of one link, the last CDI
+must be another too; where all else is, it must be the same. And a link without RESET_SEED makes the CDI that of a direct start.
 
 Nothing here asks head.py what a call does: the record goes from reset to begin, and the CDI from a start to reset, as they are.
 
@@ -60,9 +60,13 @@ class Link:
 # ---- chains
 
 
-def random_link(rng, kind, uds, uss, mask_bit=RESET_SEED):
+def random_program(rng):
+    return rng.randbytes(rng.choice([1, 126, 127, 128, 254, 255, rng.randint(1, 400)]))
+
+
+def random_link(rng, kind, uds, uss, mask_bit=RESET_SEED, program=None):
     """With everything at random but for these; its program is allowed, by the first digest or by the second."""
-    program = rng.randbytes(rng.choice([1, 126, 127, 128, 254, 255, rng.randint(1, 400)]))
+    program = program or random_program(rng)
     mask = rng.choice([rng.randrange(4), rng.getrandbits(32)]) & ~RESET_SEED | mask_bit
     digests = [rng.randbytes(32), rng.choice([rng.randbytes(32), ZEROS])]
     if kind in VERIFYING:
@@ -238,7 +242,11 @@ def changed(rng, data):
 
 
 def with_another(rng, chain, what):
-    """The chain with one link in which this is another; none if it has no link that can have it."""
+    """The chain with another first program, or with one link in which this is another; none if it has no link that can have it."""
+    if what == "first program":
+        first = chain[0]
+        program = next(p for p in iter(lambda: random_program(rng), None) if p != first.program)
+        return [random_link(rng, first.kind, first.uds, first.uss, 0, program), *chain[1:]]
     can = {"seed": lambda link: True, "device secret": lambda link: True, "user secret": lambda link: link.uss is not None}
     can |= {"user secret left out": can["user secret"], "user secret added": lambda link: link.kind in CLIENT and link.uss is None}
     places = [k for k, link in enumerate(chain) if k > 0 and can[what](link)]
@@ -256,17 +264,16 @@ def with_another(rng, chain, what):
     return [*chain[:at], replace(link, **value), *chain[at + 1 :]]
 
 
-OTHERS = ["seed", "device secret", "user secret", "user secret left out", "user secret added"]
+OTHERS = ["first program", "seed", "device secret", "user secret", "user secret left out", "user secret added"]
 
 
 def with_the_rest_another(rng, chain):
-    """Of each link only seed and secrets stay, and of the first start its program. A program without a user secret may come from flash
-    or from a client."""
-    links = []
-    for link in chain[1:]:
-        kind = rng.choice([*FLASH, *CLIENT] if link.uss is None else CLIENT)
-        links.append(replace(random_link(rng, kind, link.uds, link.uss), seed=link.seed))
-    return [replace(chain[0], ram=chain[0].ram + rng.randbytes(7)), *links]
+    """Of each link only seed and secrets stay, and of the first start program and secrets. A program without a user secret may come from
+    flash or from a client."""
+    kinds = [rng.choice([*FLASH, *CLIENT] if start.uss is None else CLIENT) for start in chain]
+    first = random_link(rng, kinds[0], chain[0].uds, chain[0].uss, 0, chain[0].program)
+    links = [random_link(rng, kind, link.uds, link.uss) for kind, link in zip(kinds[1:], chain[1:])]
+    return [first, *(replace(new, seed=link.seed) for new, link in zip(links, chain[1:]))]
 
 
 def broken(rng, chain):
@@ -292,7 +299,7 @@ def vary(looms, rng, what, chain, found):
     different = OTHERS[rng.randrange(len(OTHERS))]
     if other := with_another(rng, chain, different):
         last = looms.play(f"{what}, another {different}", other)[-1]
-        check(f"{what}, another {different}: the last CDI", last, fold(found[0], secrets(other[1:])))
+        check(f"{what}, another {different}: the last CDI", last, fold(other[0].direct_cdi(), secrets(other[1:])))
         if last == found[-1]:
             raise Difference(f"{what}, another {different}: the last CDI is the same")
         looms.seen["another last CDI", different] += 1

@@ -128,7 +128,7 @@ class Program:
 
     def run(self, ram, capture=None, places={}):
         words = [str(self.record), str(capture or self.capture), str(ram)]
-        number = command.run(self.path, words, {1: self.out, 2: self.err, **places})
+        number = command.run("diagnose", self.path, words, {1: self.out, 2: self.err, **places})
         return number, emptied(self.out), emptied(self.err)
 
     def hold(self, what, reason, record, ram, heard, **more):

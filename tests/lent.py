@@ -1,10 +1,9 @@
 """The head's C calls on memory that is lent to them, each held to head.py: its answer, and every byte of the memory after it.
 
-A `Memory` has all that gather and act are lent, in one array with guard bytes around each part, and what begin and reset are
-lent besides is in another. What a call must leave there
-follows from what it finds there: the state is read from the memory by the layout in include/mastfrap.h, head.py plays the call,
-and the next state goes back by the layout. A call that is refused must leave all of it, and one that is not must write every part
-that it gives.
+A `Memory` has all that gather and act are lent, in one array with guard bytes around each part, and what begin and reset are lent
+besides is in another. What a call must leave there follows from what it finds there: the state is read from the memory by the
+layout in include/mastfrap.h, head.py plays the call, and the next state goes back by the layout. A call that is refused must leave
+all of it, and one that is not must write every part that it gives.
 
 The calls are those of a library for this machine (`Library`), or of a program for another (`Program`).
 """

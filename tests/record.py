@@ -47,7 +47,7 @@ STATUSES = {
     0: "the record was made, or shown, whatever its type is",
     1: "the program could not be proved and built, or died, or standard output could not be written",
     2: "bad arguments, or a record for a terminal",
-    3: "a file cannot be read, RECORD has not 256 bytes, or the data is too long",
+    3: "a file cannot be read, RECORD has not 256 bytes, a program has no byte or over 131,072, or the data is too long",
 }
 
 
@@ -79,9 +79,9 @@ def words_of(record):
         places = "8 to 39 and 72 to 103" if mask & 2 else "8 to 39"
         lines += [f"allowed  {ALLOWED.get(kind, 'no program')}; bytes {places} are not looked at"]
     if mask & 1:
-        lines += [f"seed     RESET_SEED is set: the CDI is chained to measured_id {measured_id.hex()}"]
+        lines += [f"CDI      chained to measured_id {measured_id.hex()} (RESET_SEED)"]
     else:
-        lines += ["seed     RESET_SEED is not set: the CDI comes from the program's digest"]
+        lines += ["CDI      from the program's digest (no RESET_SEED)"]
     if mask >> 2:
         lines += [f"mask     0x{mask:08x}: bits 2 to 31 are ignored"]
     lines += ["data     " + data_words(rest[32:] if mask & 2 else rest)]
@@ -133,7 +133,7 @@ def makings():
             first = OLD if kind in (2, 3, 5) else None
             what = f"type {kind}, {'two programs' if second else 'one program'}, {'chained' if chained else 'direct'}"
             yield f"{what}, data {data and data.hex()}", made(kind, first, second, chained, data)
-    for program in (b"", b"x" * 65536, rng.randbytes(200001)):
+    for program in (b"xy", b"x" * 65536, rng.randbytes(131072)):
         yield f"a program of {len(program)} bytes", made(5, program, program[:-1])
     yield "secrets of other bytes", made(4, chained=(rng.randbytes(32), rng.randbytes(32)))
     yield "secrets the other way round", made(4, chained=(SEED, CDI))
@@ -159,7 +159,7 @@ class Program:
 
     def hold(self, what, words, given, wanted):
         fd = command.front(given)
-        number = command.run(str(PROGRAM), words, {0: fd, 1: self.out, 2: self.err})
+        number = command.run("recorder", str(PROGRAM), words, {0: fd, 1: self.out, 2: self.err})
         os.close(fd)
         expect(what, (number, emptied(self.out), emptied(self.err).decode()), wanted)
         self.runs += 1
@@ -255,7 +255,7 @@ def refused(status, why, *words):
 
     def case(folder):
         inside = Path(tempfile.mkdtemp(dir=folder))
-        for size in (0, 1, 152, 153, 184, 185, 255, 257, 5000):
+        for size in (0, 1, 152, 153, 184, 185, 255, 257, 5000, 131073):
             written(inside, str(size), b"\x04".ljust(size, b"\0")[:size])
         written(inside, "program", OLD)
         got = run(*(str(word).replace("FOLDER", str(inside)) for word in words))
@@ -318,6 +318,9 @@ def mistakes():
             yield f"{option} {name[:20]}", refused(3, f"{name}: {why}", *more, option, name)
     for size in (0, 1, 255, 257, 5000):
         yield f"a record of {size} bytes", refused(3, f"FOLDER/{size}: {EXACTLY}", "--show", f"FOLDER/{size}")
+    for size, more in itertools.product((0, 131073), ((), A)):
+        words = ("--type", 5, *more, "--or-digest-of" if more else "--digest-of", f"FOLDER/{size}")
+        yield f"a program of {size} bytes, {len(more)}", refused(3, f"FOLDER/{size}: a program has 1 to 131,072 bytes", *words)
     for size in (185, 5000):
         yield f"{size} bytes of data", refused(3, f"FOLDER/{size}: the data is over 184 bytes", "--type", 4, "--data", f"FOLDER/{size}")
     for size in (153, 184):
@@ -385,7 +388,8 @@ def names(folder):
     written(inside, "-", record_of(5, OLD))
     expect("any bytes", run("--show", other), (0, words_of(record_of(1)).encode(), ""))
     expect("a dash", run("--show", "-", cwd=inside), (0, words_of(record_of(5, OLD)).encode(), ""))
-    expect("any bytes, as data", run("--type", 4, "--data", other)[0], 3)
+    status, out, err = run("--type", 4, "--data", other)
+    expect("any bytes, as data", (status, out, err.endswith(": the data is over 184 bytes\n")), (3, b"", True))
 
 
 def elsewhere(folder):
@@ -395,7 +399,7 @@ def elsewhere(folder):
 
 def dies(folder):
     copy = built.Copy(folder / "dies", "#!/bin/sh\nkill -9 $$\n")
-    expect("a program that dies", copy.ended("record", "--type", "4"), (b"", b"recorder: the program died\n", 1))
+    expect("a program that dies", copy.ended("record", "--type", "4"), (b"", b"record: the program died\n", 1))
 
 
 # ---- what is written about it
@@ -415,12 +419,13 @@ def readme(folder):
     for name in ("record", "simulate", "sample"):
         (inside / name).symlink_to(TOP / name)
     examples = re.findall(r"^    \$ (.*)\n((?:    (?!\$).*\n)*)", section, re.M)
-    expect("how many commands", len(examples), 3)
+    expect("how many commands", len(examples), 5)
     for words, lines in examples:
         status, out, err = run("-c", words, command="sh", cwd=inside)
         got = re.sub("^/dev/pts/[0-9]+$", "/dev/pts/3", out.decode(), flags=re.M)
         expect(words, (status, got, err), (0, re.sub("^    ", "", lines, flags=re.M), ""))
-    expect("exit statuses", [int(number) for number in re.findall(r"^\| ([0-9]+) \|", section, re.M)], list(STATUSES))
+    statuses = re.findall(r"^\| ([0-9]+) \| (.*) \|$", section, re.M)
+    expect("exit statuses", [(int(number), words) for number, words in statuses], list(STATUSES.items()))
 
 
 def cases():

@@ -16,7 +16,7 @@ pub enum Answer {
     NextType,
     // The record has not 256 bytes.
     RecordLength,
-    // CDI or seed have not 32 bytes, or the data does not fill the record.
+    // CDI or seed has not 32 bytes, or the data does not fill the record.
     InputLength,
 }
 

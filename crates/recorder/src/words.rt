@@ -4,7 +4,7 @@ use record::Record;
 use record::ResetType;
 use text::Text;
 
-// All lines but the last: the type, the digests, the seed and the mask. They have under 430 bytes, and a text has room for 512.
+// All lines but the last: the type, the digests, what the CDI comes from, and the mask. They have under 430 bytes, and a text has room for 512.
 pub fn lines(r: Record, bytes: [u8; 256]) -> Text {
     let kind = r.reset_type;
     let digests = r.digests;
@@ -12,7 +12,7 @@ pub fn lines(r: Record, bytes: [u8; 256]) -> Text {
     let number = endian::word(bytes[0], bytes[1], bytes[2], bytes[3]);
     let a = put_type(text::put_all(text::empty(), b"type     "), kind, number);
     let b = put_digests(text::put(a, b'\n'), kind, digests);
-    let c = put_seed(b, r.reset_seed, id);
+    let c = put_basis(b, r.reset_seed, id);
     put_mask(c, [bytes[7], bytes[6], bytes[5], bytes[4]])
 }
 
@@ -116,20 +116,12 @@ fn put_line(t: Text, bytes: [u8; 32]) -> Text {
 
 // ---- the mask
 
-fn put_seed(t: Text, reset_seed: bool, id: [u8; 32]) -> Text {
+fn put_basis(t: Text, reset_seed: bool, id: [u8; 32]) -> Text {
     if !reset_seed {
-        return text::put_all(
-            t,
-            b"seed     RESET_SEED is not set: the CDI comes from the program's digest\n",
-        );
+        return text::put_all(t, b"CDI      from the program's digest (no RESET_SEED)\n");
     }
-    put_line(
-        text::put_all(
-            t,
-            b"seed     RESET_SEED is set: the CDI is chained to measured_id ",
-        ),
-        id,
-    )
+    let a = text::put_hex(text::put_all(t, b"CDI      chained to measured_id "), &id);
+    text::put_all(a, b" (RESET_SEED)\n")
 }
 
 // The mask, highest byte first, where it has bits that mean nothing.
