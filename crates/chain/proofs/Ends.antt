@@ -165,7 +165,7 @@ module _ (uds uds′ : List ℕ) (t′ : AnyStart) (ls′ : List Link) (h′ : L
       (same-end uds uds′ (l .start) t′ ls ls′ (h .1) h′ n e)
 
   -- the longer chain has a link's start where the other has its first
-  pub longer : (t : AnyStart) (l : Link) (ls : List Link) → Linked uds t (l ∷ ls) → length ls′ ≤ length ls
+  longer : (t : AnyStart) (l : Link) (ls : List Link) → Linked uds t (l ∷ ls) → length ls′ ≤ length ls
       → givenCdi (lastAfter (l .start) ls) ≡ givenCdi (lastAfter t′ ls′) → Collision (hashed uds t (l ∷ ls)) (hashed uds′ t′ ls′)
   longer t l [] h n e = rw (hashed-is uds t l [] (h .0)) (later _ _ _ _ (level t l [] h (omega arith) e))
   longer t l (m ∷ ms) h n e =

@@ -88,20 +88,25 @@ module _ (x : Next) (id : List ℕ) (hf : length (x .first) ≡ 32) (hi : length
   joins rec hr =
       whole (wordBytes (x .type)) (wordBytes (x .mask)) (x .first) id (x .second) (x .nextData) (word-length (x .type)) (word-length (x .mask)) hf hi hs rec hr has hd
 
+  -- what is written, where b says whether there is a second digest
+  abbrev pairs : Bool → List (Field × List ℕ)
+  pairs b =
+      (typeField, wordBytes (x .type)) ∷ (maskField, wordBytes (x .mask)) ∷ (firstDigestField, x .first) ∷ (measuredIdField, id) ∷ []
+      ++ cond b ((secondDigestField, x .second) ∷ []) []
+      ++ (dataField b, x .nextData) ∷ []
+
   written-is : writtenRecord x id ≡ stores has (zeros 256)
   unfolding writtenRecord
   written-is = go has
     where
-      go : (b : Bool)
-          → foldl (λ (rec : List ℕ) (c : Field × List ℕ). put (c .0) (c .1) rec) (zeros 256) ((typeField, wordBytes (x .type)) ∷ (maskField, wordBytes (x .mask)) ∷ (firstDigestField, x .first) ∷ (measuredIdField, id) ∷ [] ++ cond b ((secondDigestField, x .second) ∷ []) [] ++ (dataField b, x .nextData) ∷ [])
-          ≡ stores b (zeros 256)
+      go : (b : Bool) → foldl (λ (rec : List ℕ) (c : Field × List ℕ). put (c .0) (c .1) rec) (zeros 256) (pairs b) ≡ stores b (zeros 256)
       go true = refl
       go false = refl
 
   pub parts : writtenRecord x id ≡ wordBytes (x .type) ++ wordBytes (x .mask) ++ x .first ++ id ++ cond has (x .second) [] ++ x .nextData
   parts = written-is ∙ joins (zeros 256) refl
 
-  pub any-record : (rec : List ℕ) → length rec ≡ 256 → stores has rec ≡ writtenRecord x id
+  any-record : (rec : List ℕ) → length rec ≡ 256 → stores has rec ≡ writtenRecord x id
   any-record rec hr = joins rec hr ∙ sym parts
 
 -- six stores, one after the other

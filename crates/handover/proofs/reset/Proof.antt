@@ -33,21 +33,28 @@ module _ (c : tie.Else3) where
   abbrev sizes : (length (start .args .cdi .now) ≡ 32) × (length (start .args .seed .now) ≡ 32) × (length (start .args .next-data .now) ≡ dataField (hasSecond (start .args .mask)) .size)
   sizes = let a = start .args in fit-lengths (a .mask) (length (a .cdi .now)) (length (a .seed .now)) (length (a .next-data .now)) fits
 
+-- the ways back from the calls to the last test
+abbrev tested : tie.After-measured-id → tie.Else3
+tested c = c .before .before
+
+abbrev identified : tie.After-write → tie.After-measured-id
+identified c = c .before .before
+
 measured-id-requires : tie.Need-measured-id-requires
 measured-id-requires c κs = let l = sizes (c .before) in (l .0, l .1)
 
 write-requires : tie.Need-write-requires
-write-requires c κs = let e = c .before .before .before in (e .before .before .if2 .left, sizes e .2)
+write-requires c κs = let e = tested (c .before) in (e .before .before .if2 .left, sizes e .2)
 
 clear-requires : tie.Need-clear-requires
-clear-requires c κs = sizes (c .before .before .before .before .before .before .before) .0
+clear-requires c κs = sizes (tested (identified (c .before .before .before))) .0
 
 returns-4 : tie.Need-returns-4
 returns-4 c =
     let k = c .before .before in
     let w = k .before .before .before .before in
-    let i = w .before .before in
-    let e = i .before .before in
+    let i = identified w in
+    let e = tested i in
     rw (k .clear .ensures, w .write .ensures, i .measured-id .ensures) (sym (by-none _ _ _ _ (omega arith) (e .before .before .if2 .left) (fits e)))
 
 pub reset-spec : {M : Type 1} → statement M

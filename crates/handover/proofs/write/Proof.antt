@@ -48,7 +48,8 @@ returns c =
     let p1 = typed p2 in
     let z = start p1 in
     let a = z .args in
-    stored (a .next-type) (a .mask) (a .t4) (a .t5) (a .second) (a .next-data .now) (sizes z .0) (sizes z .1) (sizes z .2) (a .out .now) _ _ _ _ _ _ _ (z .pre .0) (z .pre .1) (d .data-from .ensures) (p1 .put-number .ensures) (p2 .put-number2 .ensures) (p3 .put .ensures) (p4 .put2 .ensures) (p5 .put-second .ensures) (p6 .put3 .ensures)
+    stored (a .next-type) (a .mask) (a .t4) (a .t5) (a .second) (a .next-data .now) (sizes z .0) (sizes z .1) (sizes z .2) (a .out .now) _ _ _ _ _ _ _ (z .pre .0) (z .pre .1) (d .data-from .ensures)
+    (p1 .put-number .ensures) (p2 .put-number2 .ensures) (p3 .put .ensures) (p4 .put2 .ensures) (p5 .put-second .ensures) (p6 .put3 .ensures)
 
 pub write-spec : {M : Type 1} → statement M
 write-spec =
