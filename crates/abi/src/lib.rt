@@ -1,6 +1,8 @@
 // The head for C, and for whatever calls C: begin, gather and act over a state in memory that the caller lends, and reset. include/mastfrap.h
 // has the calls and what the caller vouches for; specs/Layout.antt says which memory is which state, specs/Calls.antt what each call answers
 // and leaves, and handover's specs/Reset.antt what a reset does.
+#![tactic(auto)]
+
 mod gathering;
 mod layout;
 

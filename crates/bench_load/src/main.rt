@@ -1,5 +1,7 @@
 // Loads a program again and again, for bench/pair.sh to time. Standard input has the program's size and how often it is loaded, four
 // bytes each, lowest first. Printed at the end: the size, how many bytes were received in all, and the last CDI. bench/head.c does the same.
+#![tactic(auto)]
+
 mod cable;
 mod frames;
 mod print;

@@ -1,5 +1,7 @@
 // BLAKE2s (RFC 7693) with and without a key, in one call or in parts.
 // Document 01, "Hashing"; the definitions that the promises cite are those of specs/.
+#![tactic(auto)]
+
 mod stream;
 
 ghost use Rattle.std.specs.Prelude.{◌≡◌, length};

@@ -1,6 +1,8 @@
 // The Compound Device Identifier (CDI) of a start: a hash that binds the device secret to the program, or to the record's measured_id where
 // it is chained, and to the user secret where one is used.
 // Document 01, "Commands and replies", in the terms of specs/Cdi.antt.
+#![tactic(auto)]
+
 ghost use Rattle.std.specs.Prelude.{◌≡◌, [], ◌++◌, ◌∷◌, cond, ◌≤◌, length};
 ghost use Rattle.rfc7693.specs.Rfc7693.{blake2s};
 ghost use Rattle.cdi.specs.Cdi.{domain_of, cdi_of};

@@ -1,5 +1,7 @@
 // The server's half of a load: command frames made from a program, and the head's replies read.
 // Change requests 1 and 5 in the terms of specs/: Answers (the paper's numbers), Frames (what is made), Replies (what is taken).
+#![tactic(auto)]
+
 mod frames;
 mod replies;
 

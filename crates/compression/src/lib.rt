@@ -1,6 +1,8 @@
 // RFC 7693, sections 3.1 and 3.2: the compression of a block.
 // The working vector goes by value through the mixings. Once LLVM has inlined them every position is a constant, and the vector is sixteen
 // scalars and no array in memory: docs/PROVING.md, "Why the hash is fast".
+#![tactic(auto)]
+
 ghost use Rattle.std.specs.Prelude.{◌≡◌, ◌+◌, ◌*◌, ◌%◌, ◌^◌, ◌<◌, drop, if◌then◌else◌, bit_xor, slice_index};
 ghost use Rattle.rfc7693.specs.Rfc7693.{sigma, rotr, added, xor_rotated, G, selected, rounds, work_vector, F};
 ghost use Rattle.compression.specs.Steps.{Places, four_mixings};

@@ -1,6 +1,8 @@
 // Tells the one reason why a loom did not start, from its reset record and the bytes that it heard: change request 13. The reason is
 // proved (crates `diagnosis` and `reasons`); left to belief is that this program hands over the bytes that it reads, in order, and writes
 // what it is given. A Rattle program has no exit status: its number goes to descriptor 3, where the script ./diagnose reads it.
+#![tactic(auto)]
+
 mod files;
 mod words;
 

@@ -2,6 +2,8 @@
 // them as the head does, without a RAM: what blocks carry is hashed as it passes.
 // Document 01 in the terms of specs/: Reasons (what is told, and its numbers), Monitor (what each byte does), Calls (what a C program is given).
 // What each reason means, and that it is what the head did, is proved in `reasons`.
+#![tactic(auto)]
+
 mod frames;
 mod listening;
 

@@ -1,6 +1,8 @@
 // Prints the BLAKE2s-256 of the file that the argument names, as b2sum does: the hash in hex, two spaces, the name. The hash is proved
 // (crate `blake2s`); left to belief is that this file hands over the bytes that it reads, in order, and writes what it is given.
 // A Rattle program has no exit status: its number goes to descriptor 3, where the script ./digest reads it.
+#![tactic(auto)]
+
 use blake2s::{Answer, Context};
 use libc::{STDERR_FILENO, STDOUT_FILENO};
 

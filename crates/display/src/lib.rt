@@ -1,5 +1,7 @@
 // What a simulated head shows of its session, as texts: of begin's answer and of each received byte. Nothing here writes; the program
 // `simulate` does.
+#![tactic(auto)]
+
 ghost use Rattle.std.specs.Prelude.{◌≡◌};
 ghost use Rattle.protocol.specs.Commands.{blocks_for};
 ghost use Rattle.text.specs.Text.{added, text_of};

@@ -1,4 +1,6 @@
 // Words of 32 bits as four bytes, lowest byte first.
+#![tactic(auto)]
+
 ghost use Rattle.std.specs.Prelude.{◌≡◌, [], ◌∷◌, ◌/◌, ◌%◌, get_or, length, take};
 ghost use Rattle.endian.specs.Lists.{zeros, put_at, same};
 ghost use Rattle.endian.specs.Endian.{word, byte_of, first_bytes};

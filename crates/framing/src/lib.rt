@@ -1,5 +1,7 @@
 // The header byte of a frame (TKey Framing Protocol), read and written.
 // Document 01, "Header byte", and change request 5 in the terms of specs/Header.antt.
+#![tactic(auto)]
+
 ghost use Rattle.std.specs.Prelude.{◌≡◌, ◌<◌};
 ghost use Rattle.framing.specs.Header.{frame_id, endpoint, status, in_field, fields_at, reply_body_len, header_at, header_byte, length_of, code_of, is_good, body_len};
 ghost use Rattle.framing.specs.Answers.{status_number, reading_of, fields_of, writing_of};

@@ -1,6 +1,8 @@
 // The reset call: a running program hands over to the next one. It writes the record of the next start, which begin then reads, and zeroes the
 // CDI that it is lent.
 // Change request 7 and source document 002, RESET, in the terms of specs/Reset.antt.
+#![tactic(auto)]
+
 ghost use Rattle.std.specs.Prelude.{◌≡◌, cond, ◌+◌, ◌≤◌, length};
 ghost use Rattle.endian.specs.Lists.{zeros};
 ghost use Rattle.record.specs.Record.{second_digest_field, data_field, has_second};

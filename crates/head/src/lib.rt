@@ -2,6 +2,8 @@
 // the code that goes by the state alone, `gather` among it. `loader` has the calls that are lent memory.
 // Document 01 in the terms of specs/: State (the state and its ranges), Answers (the paper's numbers), Start (what a start is), Begin, Gather
 // and Act (what each call does); the theorems are Theorems and KnownAnswers.
+#![tactic(auto)]
+
 mod commands;
 mod gathering;
 mod states;

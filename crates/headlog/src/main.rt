@@ -1,6 +1,8 @@
 // Prints the session on standard input, with 32,768 bytes of RAM: document 01, "Session printer".
 // What is written of each byte is proved, turn by turn and whole (crate `printer`). What no contract can say is left to this file: that it
 // hands over the bytes that it reads, in order, and writes each text. What cannot be written is lost: there is nobody to tell.
+#![tactic(auto)]
+
 use libc::{STDIN_FILENO, STDOUT_FILENO};
 use printer::Next;
 

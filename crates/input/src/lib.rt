@@ -1,4 +1,6 @@
 // What the programs behind the commands are given: files, and numbers among their arguments.
+#![tactic(auto)]
+
 ghost use Rattle.std.specs.Prelude.{◌≡◌, ◌≤◌, length};
 
 // What reading a file gives.

@@ -2,6 +2,8 @@
 // is said in `messages`. What no contract can say is left to this program: that it hands over the bytes that it reads, in order, and sends
 // each frame. The script ./load opens the line: on descriptor 4 a read waits a tick, a tenth of a second, for a byte, and on 5 a write
 // never waits. A Rattle program has no exit status: its number goes to descriptor 3.
+#![tactic(auto)]
+
 mod files;
 mod line;
 

@@ -1,5 +1,7 @@
 // The boot loader of a loom head: bytes from the cable in and replies out, or a program from flash, until one starts or the head stops.
 // Its state, its answers and what each call does are defined in `head`, whose types and whose `gather` stand here too.
+#![tactic(auto)]
+
 mod acting;
 mod beginning;
 mod flash;

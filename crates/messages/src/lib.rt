@@ -1,4 +1,6 @@
 // The words of `./load`: of a failure, of a load and of what is done of one. In specs/, Messages has them all.
+#![tactic(auto)]
+
 ghost use Rattle.std.specs.Prelude.{◌≡◌, ◌<◌, ◌≤◌, min};
 ghost use Rattle.text.specs.Text.{hex_of, added, text_of};
 ghost use Rattle.protocol.specs.Commands.{blocks_for};

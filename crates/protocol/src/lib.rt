@@ -1,5 +1,7 @@
 // The firmware protocol: what a load and a block say, and each reply as a value.
 // Document 01, "Commands and replies", and change request 5 in the terms of specs/Commands.antt and specs/Replies.antt.
+#![tactic(auto)]
+
 ghost use Rattle.std.specs.Prelude.{◌≡◌, cond, take, drop};
 ghost use Rattle.framing.specs.declared.Status.TheVariants.{Good, Bad};
 ghost use Rattle.protocol.specs.Commands.{length_ok, bytes_of, load_in, good_load, uses_uss, blocks_for, place_of, count_in, is_last};

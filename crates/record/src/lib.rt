@@ -1,5 +1,7 @@
 // The reset record, which the program before a reset leaves for the loader.
 // Document 01, "Reset record and lent memory", with change requests 3 and 6, in the terms of specs/Record.antt and specs/Types.antt.
+#![tactic(auto)]
+
 ghost use Rattle.std.specs.Prelude.{◌≡◌, ◌+◌, ◌≤◌, length, take, drop};
 ghost use Rattle.endian.specs.Lists.{padded};
 ghost use Rattle.record.specs.Record.{type_number, known_type, digests_at, record_of, record_at};

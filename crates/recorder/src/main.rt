@@ -3,6 +3,8 @@
 // On standard input comes, where there is an argument, the record to show; otherwise what the call is made with: type, mask, CDI, seed, the
 // first and the second digest, and the data. A Rattle program has no exit status: its number goes to descriptor 3, where the script ./record
 // reads it.
+#![tactic(auto)]
+
 mod words;
 
 use handover::Answer;

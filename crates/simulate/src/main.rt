@@ -3,6 +3,8 @@
 // the two slots of flash, each behind its length. What is shown (crate `display`) goes to descriptor 2 and the exit status, which a Rattle program has not, to
 // descriptor 3.
 // What no contract can say is left to this file: that it hands over the bytes that it reads, in order, and writes each reply and text.
+#![tactic(auto)]
+
 ghost use Rattle.std.specs.Prelude.{◌≡◌, length};
 
 use libc::{STDERR_FILENO, STDIN_FILENO, STDOUT_FILENO};

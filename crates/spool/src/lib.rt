@@ -1,5 +1,7 @@
 // Design spools: a program written as a spool of checked blocks, read back, and a damaged spool salvaged with spare blocks.
 // Change request 10 in the terms of specs/: Answers (the paper's numbers), Reading, Writing, Salvage.
+#![tactic(auto)]
+
 mod reading;
 mod salvaging;
 mod writing;

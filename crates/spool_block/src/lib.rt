@@ -1,5 +1,7 @@
 // A block of a design spool: tested at a place, and made.
 // Change request 10 in the terms of specs/: Block (when a block is good), Making (as it is written).
+#![tactic(auto)]
+
 ghost use Rattle.std.specs.Prelude.{◌≡◌, [], ◌++◌, ◌+◌, ◌≤◌, eqb, length, take};
 ghost use Rattle.rfc7693.specs.Rfc7693.{blake2s};
 ghost use Rattle.endian.specs.Lists.{zeros};

@@ -1,4 +1,6 @@
 // The words of a spool that does not read, for each command that takes one. In specs/, Words has them all.
+#![tactic(auto)]
+
 ghost use Rattle.std.specs.Prelude.{◌≡◌};
 ghost use Rattle.text.specs.Text.{added, text_of};
 ghost use Rattle.spool.specs.Answers.{number_of};

@@ -2,6 +2,8 @@
 // crate `spool`, what is said of a spool that does not read in `spool_words`; left to belief is that this program hands over the bytes that it
 // reads, in order, and writes what it is given. The arguments are a task and the files that it is done with, as ./spool has seen to. A Rattle
 // program has no exit status: its number goes to descriptor 3, where the script ./spool reads it.
+#![tactic(auto)]
+
 mod files;
 mod mending;
 mod words;

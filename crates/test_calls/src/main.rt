@@ -1,6 +1,8 @@
 // Makes the calls on standard input, one after the other, and writes all that each gives, as bytes. tests/calls.py writes the input and
 // compares the output with what its independent programs say. The input has the number of calls in four bytes and then 320 bytes for each;
 // byte 0 of a call says which it is.
+#![tactic(auto)]
+
 mod hash;
 mod image;
 mod small;

@@ -1,4 +1,6 @@
 // A text of at most 512 bytes as a value, put together part by part. A part that does not fit is cut; whoever makes a text shows that it fits.
+#![tactic(auto)]
+
 ghost use Rattle.std.specs.Prelude.{◌≡◌, [], ◌∷◌, ◌<◌, replicate};
 ghost use Rattle.text.specs.Text.{hex_digit, hex_of, decimal_of, added, text_of};
 

@@ -1,5 +1,7 @@
 // The laptop's half of a load, event by event: what `./load` does next. Nothing here reads or writes; the program `load` does. What is sent
 // and what is taken is `client`'s; specs/Upload.antt says when.
+#![tactic(auto)]
+
 mod steps;
 
 ghost use Rattle.std.specs.Prelude.{◌≡◌};
