@@ -22,7 +22,7 @@ fn body_in(bytes: &[u8]) -> [u8; 128]
     ensures { result ≡ take 128 bytes.now }
 {
     let mut p = [0u8; 128];
-    bytes::copy(&bytes[0..128], &mut p);
+    p.copy_from_slice(&bytes[0..128]);
     p
 }
 
@@ -31,7 +31,7 @@ fn part(bytes: &[u8], from: usize) -> [u8; 32]
     ensures { result ≡ take 32 (drop from bytes.now) }
 {
     let mut p = [0u8; 32];
-    bytes::copy(&bytes[from..from + 32], &mut p);
+    p.copy_from_slice(&bytes[from..from + 32]);
     p
 }
 
@@ -40,7 +40,7 @@ fn udi_in(bytes: &[u8]) -> [u8; 8]
     ensures { result ≡ take 8 (drop 196 bytes.now) }
 {
     let mut p = [0u8; 8];
-    bytes::copy(&bytes[196..204], &mut p);
+    p.copy_from_slice(&bytes[196..204]);
     p
 }
 
@@ -98,7 +98,7 @@ fn put(bytes: &mut [u8], at: usize, src: &[u8])
     ensures { bytes.new ≡ paste bytes.old at src.now (length src.now) }
 {
     let end = at + src.len();
-    bytes::copy(src, &mut bytes[at..end]);
+    bytes[at..end].copy_from_slice(src);
 }
 
 fn put_body(bytes: &mut [u8], src: [u8; 128])

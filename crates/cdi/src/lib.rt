@@ -28,10 +28,10 @@ fn string(uds: [u8; 32], domain: u8, measurement: [u8; 32], uss: [u8; 32]) -> [u
     ensures { result ≡ uds ++ domain ∷ measurement ++ uss }
 {
     let mut b = [0u8; 97];
-    bytes::copy(&uds, &mut b[..32]);
+    b[..32].copy_from_slice(&uds);
     b[32] = domain;
-    bytes::copy(&measurement, &mut b[33..65]);
-    bytes::copy(&uss, &mut b[65..97]);
+    b[33..65].copy_from_slice(&measurement);
+    b[65..97].copy_from_slice(&uss);
     b
 }
 

@@ -29,7 +29,7 @@ fn load_body(size: u32, secret: Secret) -> [u8; 128]
     if secret.used {
         load[5] = 1;
         let uss = secret.uss;
-        bytes::copy(&uss, &mut load[6..38]);
+        load[6..38].copy_from_slice(&uss);
     }
     load
 }
@@ -44,7 +44,7 @@ fn block_body(program: &[u8], block: u32) -> [u8; 128]
     let from = protocol::place_of(block);
     let mut body = [0u8; 128];
     body[0] = 0x05;
-    bytes::copy(&program[from..from + n], &mut body[1..n + 1]);
+    body[1..n + 1].copy_from_slice(&program[from..from + n]);
     body
 }
 
@@ -66,5 +66,5 @@ pub fn put(room: &mut [u8], id: u8, body: [u8; 128])
     ensures { room.new ≡ put_in room.old (command_header id ∷ body) }
 {
     room[0] = header(id);
-    bytes::copy(&body, &mut room[1..129]);
+    room[1..129].copy_from_slice(&body);
 }

@@ -118,7 +118,7 @@ pub fn digest_in(x: Expected, reply: &[u8]) -> [u8; 32]
 {
     let n = x.digest;
     let mut digest = [0u8; 32];
-    bytes::copy(&reply[3..3 + n], &mut digest[..n]);
+    digest[..n].copy_from_slice(&reply[3..3 + n]);
     digest
 }
 

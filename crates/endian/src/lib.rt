@@ -67,7 +67,7 @@ pub fn put(out: &mut [u8], from: usize, x: &[u8])
         return;
     }
     let to = from + x.len();
-    bytes::copy(x, &mut out[from..to]);
+    out[from..to].copy_from_slice(x);
 }
 
 // Whether two slices hold the same bytes. Each is looked at, wherever they differ: without an early exit what calls this is small enough

@@ -44,7 +44,7 @@ fn put(out: &mut [u8], from: usize, bytes: &[u8])
     ensures { out.new ≡ put (record { from = from; size = length bytes.now }) bytes.now out.old }
 {
     let to = from + bytes.len();
-    bytes::copy(bytes, &mut out[from..to]);
+    out[from..to].copy_from_slice(bytes);
 }
 
 // Writes a number of 32 bits from a place on, lowest byte first.
@@ -118,7 +118,7 @@ fn clear(bytes: &mut [u8])
     ensures { bytes.new ≡ zeros 32 }
 {
     let none = [0u8; 32];
-    bytes::copy(&none, bytes);
+    bytes.copy_from_slice(&none);
 }
 
 // Hands over to the next program: writes the record of its start, and zeroes the CDI.

@@ -15,7 +15,7 @@ pub fn copy_to(dst: &mut [u8], at: usize, src: &[u8])
     ensures { dst.new ≡ paste dst.old at src.now (length src.now) }
 {
     let end = at + src.len();
-    bytes::copy(src, &mut dst[at..end]);
+    dst[at..end].copy_from_slice(src);
 }
 
 // Puts a reply at the front of the room.

@@ -19,7 +19,7 @@ fn udi_of(front: [u8; 296]) -> [u8; 8]
     ensures { result ≡ drop 288 front }
 {
     let mut udi = [0u8; 8];
-    bytes::copy(&front[288..], &mut udi);
+    udi.copy_from_slice(&front[288..]);
     udi
 }
 

@@ -37,7 +37,7 @@ fn uss_in(body: [u8; 128]) -> [u8; 32]
     ensures { result ≡ take 32 (drop 6 body) }
 {
     let mut uss = [0u8; 32];
-    bytes::copy(&body[6..38], &mut uss);
+    uss.copy_from_slice(&body[6..38]);
     uss
 }
 
@@ -167,7 +167,7 @@ pub fn name_reply(header: u8) -> Reply
         0x02u8, 0x74, 0x6b, 0x31, 0x20, 0x6d, 0x6b, 0x64, 0x66, 1, 0, 0, 0,
     ];
     let mut body = [0u8; 128];
-    bytes::copy(&name, &mut body[..13]);
+    body[..13].copy_from_slice(&name);
     Reply {
         header: reply_header(header, 32, Status::Good),
         len: 32,
@@ -180,7 +180,7 @@ pub fn udi_reply(header: u8, udi: [u8; 8]) -> Reply
     ensures { result ≡ udi_reply header udi }
 {
     let mut body = [0u8; 128];
-    bytes::copy(&udi, &mut body[2..10]);
+    body[2..10].copy_from_slice(&udi);
     with_status(header, 32, 0x09, Status::Good, body)
 }
 
@@ -203,6 +203,6 @@ pub fn digest_reply(header: u8, digest: [u8; 32]) -> Reply
     ensures { result ≡ digest_reply header digest }
 {
     let mut body = [0u8; 128];
-    bytes::copy(&digest, &mut body[2..34]);
+    body[2..34].copy_from_slice(&digest);
     with_status(header, 128, 0x07, Status::Good, body)
 }

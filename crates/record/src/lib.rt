@@ -74,7 +74,7 @@ fn part(bytes: &[u8], from: usize) -> [u8; 32]
     ensures { result ≡ take 32 (drop from bytes.now) }
 {
     let mut p = [0u8; 32];
-    bytes::copy(&bytes[from..from + 32], &mut p);
+    p.copy_from_slice(&bytes[from..from + 32]);
     p
 }
 
@@ -83,7 +83,7 @@ pub fn front(record: &[u8]) -> [u8; 256]
     ensures { result ≡ padded 256 (take 256 «record».now) }
 {
     let mut bytes = [0u8; 256];
-    bytes::copy(endian::first(record, 256), &mut bytes);
+    bytes.copy_from_slice(endian::first(record, 256));
     bytes
 }
 

@@ -30,7 +30,7 @@ pub fn part(c: [u8; 320], at: usize) -> [u8; 32]
 {
     let mut p = [0u8; 32];
     let end = at + 32;
-    bytes::copy(&c[at..end], &mut p);
+    p.copy_from_slice(&c[at..end]);
     p
 }
 
