@@ -39,6 +39,8 @@ def antt(text, names, is_proof):
 
 
 def rust(text, names):
+    """Functions of src/ are in snake case and keep their names: only words that are not turn."""
+    names = {old: new for old, new in names.items() if snake(old) != old}
     return RUST.sub(lambda m: m[0] if '"' in m[0] else names.get(m[0], m[0]), text)
 
 

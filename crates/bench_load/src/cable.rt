@@ -3,7 +3,7 @@ use super::frames;
 use loader::{Acted, Answer, Phase, State};
 
 // What the loads came to.
-#[derive(Drop)]
+#[derive(Clone, Copy)]
 pub struct Loaded {
     // How many bytes were received.
     pub received: u64,

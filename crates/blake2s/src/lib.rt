@@ -9,7 +9,7 @@ ghost use Rattle.blake2s.specs.Hash.{number_of, hash_number, hash_output};
 ghost use Rattle.blake2s.specs.Stream.{begin_number, begin_context, update_number, update_context, finish_number, finish_output, refused_context};
 
 // What a call answers: it was accepted, or the reason why it was refused and changed nothing.
-#[derive(Drop)]
+#[derive(Clone, Copy)]
 pub enum Answer {
     Accepted,
     // A field of the context is out of range.
@@ -23,7 +23,7 @@ pub enum Answer {
 }
 
 // A hash that is being made. How many bytes are compressed and how many wait in the block follows from message and keyed.
-#[derive(Drop)]
+#[derive(Clone, Copy)]
 pub struct Context {
     // The state after the blocks that are compressed.
     pub h: [u32; 8],
@@ -38,7 +38,7 @@ pub struct Context {
 }
 
 // What begin and update answer, and the next context.
-#[derive(Drop)]
+#[derive(Clone, Copy)]
 pub struct Next {
     pub answer: Answer,
     pub context: Context,

@@ -139,7 +139,7 @@ fn compress_blocks(h: &mut [u32; 8], t: u64, d: &[u8], n: u32, last: bool)
 }
 
 // What no compression has taken: the bytes of the part behind the first `from`, which go to the block behind its first `at`.
-#[derive(Drop)]
+#[derive(Clone, Copy)]
 struct Rest {
     at: u32,
     from: usize,

@@ -11,7 +11,7 @@ ghost use Rattle.client.specs.Frames.{refusal, secret_of, making_as, making_of, 
 ghost use Rattle.client.specs.Replies.{differing, taking_of, taking, taking_as, taking_into};
 
 // The user secret (USS) of a load, or none.
-#[derive(Drop)]
+#[derive(Clone, Copy)]
 pub struct Secret {
     pub used: bool,
     // Not sent unless it is used.
@@ -19,7 +19,7 @@ pub struct Secret {
 }
 
 // What a call answers. A refused call changes nothing.
-#[derive(Drop)]
+#[derive(Clone, Copy)]
 pub enum Answer {
     Accepted,
     // The room for the frame has under 129 bytes.
@@ -35,7 +35,7 @@ pub enum Answer {
 }
 
 // In what a reply differs from the expected one: the first of these, in this order.
-#[derive(Drop)]
+#[derive(Clone, Copy)]
 pub enum Difference {
     // It is the expected one.
     Nothing,
@@ -52,7 +52,7 @@ pub enum Difference {
 }
 
 // What reading a reply gives.
-#[derive(Drop)]
+#[derive(Clone, Copy)]
 pub struct Taken {
     pub answer: Answer,
     // 0 or 1 as the head sent it; 0 where the reply is refused.

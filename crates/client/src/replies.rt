@@ -7,7 +7,7 @@ ghost use Rattle.client.specs.Replies.{expected_reply, header_is, status_is, all
 use super::{Answer, Difference, Taken};
 
 // What the reply to a frame must be.
-#[derive(Drop)]
+#[derive(Clone, Copy)]
 pub struct Expected {
     pub code: u8,
     // The length of its body.
@@ -42,7 +42,7 @@ pub fn reply_to(size: u32, k: u32) -> Expected
 }
 
 // Whether a header is that of a reply with this frame ID and body length.
-fn header_is_fields(b: u8, id: u8, len: usize) -> bool
+fn header_is(b: u8, id: u8, len: usize) -> bool
     ensures { result ≡ header_is (fields_at b) id len }
 {
     match framing::read_reply_header(b) {
@@ -93,7 +93,7 @@ pub fn difference_in(x: Expected, id: u8, reply: &[u8]) -> Difference
     if reply.len() == 0 {
         return Difference::Header;
     }
-    if !header_is_fields(reply[0], id, x.len) {
+    if !header_is(reply[0], id, x.len) {
         return Difference::Header;
     }
     if reply.len() != 1 + x.len {

@@ -11,7 +11,7 @@ use input::Contents;
 use libc::{STDIN_FILENO, STDOUT_FILENO};
 
 // What a read leads to.
-#[derive(Drop)]
+#[derive(Clone, Copy)]
 enum Step {
     // The head goes on, and more bytes may come.
     More,
@@ -21,7 +21,7 @@ enum Step {
     Failed,
 }
 
-#[derive(Drop)]
+#[derive(Clone, Copy)]
 struct Part {
     step: Step,
     monitor: Monitor,

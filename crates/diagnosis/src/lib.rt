@@ -18,7 +18,7 @@ pub use listening::hear;
 use record::Place;
 
 // Why a diagnosis is refused.
-#[derive(Drop)]
+#[derive(Clone, Copy)]
 pub enum Refusal {
     // The reset record has not 256 bytes.
     RecordLength,
@@ -29,7 +29,7 @@ pub enum Refusal {
 }
 
 // What has come of the bytes so far.
-#[derive(Drop)]
+#[derive(Clone, Copy)]
 pub enum Verdict {
     // The head goes on.
     Open,
@@ -39,7 +39,7 @@ pub enum Verdict {
 }
 
 // Where the last byte that was heard stands.
-#[derive(Drop)]
+#[derive(Clone, Copy)]
 pub struct Position {
     // Its number, from 1.
     pub byte: u64,
@@ -50,7 +50,7 @@ pub struct Position {
 }
 
 // What is known after some bytes.
-#[derive(Drop)]
+#[derive(Clone, Copy)]
 pub struct Monitor {
     // The state that the head is in, while it goes on; without its UDI, which nothing here reads.
     pub head: State,
@@ -63,14 +63,14 @@ pub struct Monitor {
 }
 
 // A monitor that was told a part. It is not taken, and nothing changed, where a count and the part's length come to 2^64.
-#[derive(Drop)]
+#[derive(Clone, Copy)]
 pub struct Heard {
     pub taken: bool,
     pub monitor: Monitor,
 }
 
 // The one reason why a loom did not start, or that it has.
-#[derive(Drop)]
+#[derive(Clone, Copy)]
 pub enum Finding {
     Refused(Refusal),
     Stopped(Stop),
@@ -83,7 +83,7 @@ pub enum Finding {
     Started,
 }
 
-#[derive(Drop)]
+#[derive(Clone, Copy)]
 pub struct Diagnosis {
     pub finding: Finding,
     // The last byte that was read: at a stop, the byte that stopped the head, and number 0 where no byte did.

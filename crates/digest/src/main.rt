@@ -7,7 +7,7 @@ use blake2s::{Answer, Context};
 use libc::{STDERR_FILENO, STDOUT_FILENO};
 
 // What a read leads to.
-#[derive(Drop)]
+#[derive(Clone, Copy)]
 enum Step {
     // Bytes have come, and more may.
     More,
@@ -17,7 +17,7 @@ enum Step {
     Failed,
 }
 
-#[derive(Drop)]
+#[derive(Clone, Copy)]
 struct Part {
     step: Step,
     context: Context,

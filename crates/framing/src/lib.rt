@@ -8,14 +8,14 @@ ghost use Rattle.framing.specs.Answers.{status_number, reading_of, fields_of, wr
 
 // The status of a reply: whether the head has done what the command asked for. A command, and a reply without a status, is written with
 // Good.
-#[derive(Drop)]
+#[derive(Clone, Copy)]
 pub enum Status {
     Good,
     Bad,
 }
 
 // What the header of a command says.
-#[derive(Drop)]
+#[derive(Clone, Copy)]
 pub enum Header {
     // Bits 7 and 2 are zero: the frame's ID, its endpoint, and how many bytes its body has.
     Good { id: u8, endpoint: u8, len: u8 },
@@ -24,7 +24,7 @@ pub enum Header {
 }
 
 // What the header of a reply says.
-#[derive(Drop)]
+#[derive(Clone, Copy)]
 pub enum ReplyHeader {
     // Bit 7 is zero; bit 2 is the status.
     Good {
@@ -38,7 +38,7 @@ pub enum ReplyHeader {
 }
 
 // What the writer answers.
-#[derive(Drop)]
+#[derive(Clone, Copy)]
 pub enum Written {
     Byte(u8),
     // The ID or the endpoint is over 3, or no header has that length.

@@ -9,7 +9,7 @@ ghost use Rattle.record.specs.Record.{second_digest_field, data_field, has_secon
 ghost use Rattle.handover.specs.Reset.{number_of, next_of, mixed, measured_id_for, word_bytes, put, written_record, inputs_fit, handed_over, resetting};
 
 // What a reset answers: it was accepted, or the reason why it was refused and changed nothing.
-#[derive(Drop)]
+#[derive(Clone, Copy)]
 pub enum Answer {
     Accepted,
     // The next type is over 5.

@@ -20,7 +20,7 @@ use record::Digests;
 pub use states::{allowed, config_of, ended, fits, frame_ok, idle, is_whole, load_ok, of_size};
 
 // Where a session stands.
-#[derive(Drop)]
+#[derive(Clone, Copy)]
 pub enum Phase {
     // Queries are answered, and a load is waited for.
     Waiting,
@@ -31,7 +31,7 @@ pub enum Phase {
 }
 
 // The frame that is being gathered, or that is whole and waits to be acted on.
-#[derive(Drop)]
+#[derive(Clone, Copy)]
 pub struct Incoming {
     pub header: u8,
     // How many of its bytes have come, the header among them; 0 between frames.
@@ -41,7 +41,7 @@ pub struct Incoming {
 }
 
 // What begin fixed.
-#[derive(Drop)]
+#[derive(Clone, Copy)]
 pub struct Config {
     pub ram_len: usize,
     pub measured_id: [u8; 32],
@@ -55,7 +55,7 @@ pub struct Config {
 }
 
 // How far the load is.
-#[derive(Drop)]
+#[derive(Clone, Copy)]
 pub struct Progress {
     // The program's size.
     pub size: u32,
@@ -66,7 +66,7 @@ pub struct Progress {
     pub phase: Phase,
 }
 
-#[derive(Drop)]
+#[derive(Clone, Copy)]
 pub struct State {
     pub incoming: Incoming,
     pub config: Config,
@@ -74,7 +74,7 @@ pub struct State {
 }
 
 // Why a call was refused: document 01's refusals 1 to 7, and 47. Begin gives 5 to 7, `gather` 1, 2 and 47, `act` 1 to 5 and 47.
-#[derive(Drop)]
+#[derive(Clone, Copy)]
 pub enum Refusal {
     // A field of the state is out of its range.
     StateRange,
@@ -95,7 +95,7 @@ pub enum Refusal {
 }
 
 // Why the head stopped: document 01's stops 20 and 22 to 25, and 26 of change request 3. Begin gives 20, 25 and 26, `gather` 22, `act` 23 to 25.
-#[derive(Drop)]
+#[derive(Clone, Copy)]
 pub enum Stop {
     // The record's type is 6 or above.
     UnknownType,
@@ -112,7 +112,7 @@ pub enum Stop {
 }
 
 // What a call answers.
-#[derive(Drop)]
+#[derive(Clone, Copy)]
 pub enum Answer {
     // Nothing has changed.
     Refused(Refusal),
@@ -126,7 +126,7 @@ pub enum Answer {
 }
 
 // What begin gives back, and what comes of a program that was measured.
-#[derive(Drop)]
+#[derive(Clone, Copy)]
 pub struct Begun {
     pub answer: Answer,
     // The CDI and the program's digest at a start; otherwise zeros.
@@ -136,14 +136,14 @@ pub struct Begun {
 }
 
 // What gathering a byte gives back.
-#[derive(Drop)]
+#[derive(Clone, Copy)]
 pub struct Gathered {
     pub answer: Answer,
     pub state: State,
 }
 
 // What acting on a frame gives back.
-#[derive(Drop)]
+#[derive(Clone, Copy)]
 pub struct Acted {
     pub answer: Answer,
     // How many bytes at the front of the reply room are a reply: 0 for none.
@@ -155,7 +155,7 @@ pub struct Acted {
 }
 
 // What is done with a whole frame.
-#[derive(Drop)]
+#[derive(Clone, Copy)]
 pub enum Action {
     AnswerName,
     AnswerUdi,
@@ -198,7 +198,7 @@ pub fn stop_number(s: Stop) -> u8
 }
 
 // Whether a call is admitted.
-#[derive(Drop)]
+#[derive(Clone, Copy)]
 pub enum Admission {
     Admitted,
     Refused(Refusal),

@@ -4,7 +4,7 @@
 ghost use Rattle.std.specs.Prelude.{◌≡◌, ◌≤◌, length};
 
 // What reading a file gives.
-#[derive(Drop)]
+#[derive(Clone, Copy)]
 pub enum Contents {
     // So many bytes.
     Bytes(usize),

@@ -13,7 +13,7 @@ use loader::{Answer, State};
 use text::Text;
 
 // A head between two bytes, with its device secret.
-#[derive(Drop)]
+#[derive(Clone, Copy)]
 pub struct Session {
     pub state: State,
     pub words: [u32; 8],
@@ -22,14 +22,14 @@ pub struct Session {
 }
 
 // A received byte, or the end of the input.
-#[derive(Drop)]
+#[derive(Clone, Copy)]
 pub enum Next {
     Byte(u8),
     End,
 }
 
 // What is to be written now, and whether that is all; if not, the session that the next turn goes on with.
-#[derive(Drop)]
+#[derive(Clone, Copy)]
 pub struct Turn {
     pub session: Session,
     pub text: Text,

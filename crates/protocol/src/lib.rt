@@ -10,14 +10,14 @@ ghost use Rattle.protocol.specs.Replies.{reply_header, reply_with, name_reply, u
 use framing::Status;
 
 // A frame: its header, and its body at the front of 128 bytes.
-#[derive(Drop)]
+#[derive(Clone, Copy)]
 pub struct Frame {
     pub header: u8,
     pub body: [u8; 128],
 }
 
 // What a load says: the program's size, the user secret's flag and the user secret (USS).
-#[derive(Drop)]
+#[derive(Clone, Copy)]
 pub struct Load {
     pub size: u32,
     pub flag: u8,
@@ -25,7 +25,7 @@ pub struct Load {
 }
 
 // A reply: its header, the length of its body, and the body, filled up with zeros.
-#[derive(Drop)]
+#[derive(Clone, Copy)]
 pub struct Reply {
     pub header: u8,
     pub len: usize,

@@ -8,7 +8,7 @@ ghost use Rattle.record.specs.Record.{type_number, known_type, digests_at, recor
 ghost use Rattle.record.specs.Types.{source_at, source_of, verifies, digests_of, one_of};
 
 // Which program a reset asks for.
-#[derive(Drop)]
+#[derive(Clone, Copy)]
 pub enum ResetType {
     Flash0,
     Flash1,
@@ -22,7 +22,7 @@ pub enum ResetType {
 }
 
 // Where the program of a reset comes from.
-#[derive(Drop)]
+#[derive(Clone, Copy)]
 pub enum Place {
     Slot0,
     Slot1,
@@ -33,7 +33,7 @@ pub enum Place {
 }
 
 // The allowed digests: a program that must have a digest has one of them.
-#[derive(Drop)]
+#[derive(Clone, Copy)]
 pub struct Digests {
     // Document 01's required digest.
     pub first: [u8; 32],
@@ -44,7 +44,7 @@ pub struct Digests {
 }
 
 // What the loader reads of a record.
-#[derive(Drop)]
+#[derive(Clone, Copy)]
 pub struct Record {
     pub reset_type: ResetType,
     // Mask bit 0: the CDI is chained to measured_id.

@@ -11,7 +11,7 @@ use handover::Answer;
 use libc::{STDERR_FILENO, STDIN_FILENO, STDOUT_FILENO};
 
 // What a reset is called with, besides the data.
-#[derive(Drop)]
+#[derive(Clone, Copy)]
 struct Call {
     next_type: u32,
     mask: u32,

@@ -11,7 +11,7 @@ use libc::{STDERR_FILENO, STDIN_FILENO, STDOUT_FILENO};
 use loader::{Answer, State};
 
 // What a head has when it is switched on, besides memory.
-#[derive(Drop)]
+#[derive(Clone, Copy)]
 struct Device {
     record: [u8; 256],
     words: [u32; 8],
@@ -20,7 +20,7 @@ struct Device {
 }
 
 // A head between two bytes, with its device secret and its last answer; over says that no byte is received any more.
-#[derive(Drop)]
+#[derive(Clone, Copy)]
 struct Head {
     state: State,
     words: [u32; 8],

@@ -14,7 +14,7 @@ ghost use Rattle.spool.specs.Salvage.{salvaging_as, salvaging};
 ghost use Rattle.spool.specs.Steps.{count_after};
 
 // What a call answers. A refused call changes nothing.
-#[derive(Drop)]
+#[derive(Clone, Copy)]
 pub enum Answer {
     Accepted,
     // The program has no byte, or over 131,072.
@@ -32,7 +32,7 @@ pub enum Answer {
 }
 
 // What reading and writing answer, and how many bytes they put at the front of the room; none where they are refused.
-#[derive(Drop)]
+#[derive(Clone, Copy)]
 pub struct Done {
     pub answer: Answer,
     pub len: usize,

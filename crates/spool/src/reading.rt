@@ -22,7 +22,7 @@ pub fn length_is_bad(n: usize) -> bool
 // ---- the reader, and what it asks at its place
 
 // A reader: the lent spool, and the place of the block that it stands at.
-#[derive(Drop)]
+#[derive(Clone, Copy)]
 struct Reader<'a> {
     spool: &'a [u8],
     place: usize,
@@ -79,7 +79,7 @@ fn next<'a>(r: Reader<'a>) -> Reader<'a>
 }
 
 // What a reader finds: the refusal of the block, and the place of the next one.
-#[derive(Drop)]
+#[derive(Clone, Copy)]
 pub struct Seen {
     pub refusal: u32,
     pub next: usize,

@@ -4,7 +4,7 @@
 ghost use Rattle.std.specs.Prelude.{◌≡◌, [], ◌∷◌, ◌<◌, replicate};
 ghost use Rattle.text.specs.Text.{hex_digit, hex_of, decimal_of, added, text_of};
 
-#[derive(Drop)]
+#[derive(Clone, Copy)]
 pub struct Text {
     pub len: usize,
     // The text at the front, and zeros behind it.

@@ -10,7 +10,7 @@ ghost use Rattle.upload.specs.Upload.{is_over, exit_number};
 pub use steps::{advance, job_of, open, read};
 
 // What is to be loaded, and how.
-#[derive(Drop)]
+#[derive(Clone, Copy)]
 pub struct Job {
     // How many bytes the program has.
     pub len: usize,
@@ -23,7 +23,7 @@ pub struct Job {
 }
 
 // A frame that is sent, and what has come of its reply.
-#[derive(Drop)]
+#[derive(Clone, Copy)]
 pub struct Exchange {
     // The frame's number.
     pub k: u32,
@@ -36,7 +36,7 @@ pub struct Exchange {
 }
 
 // What the line gives.
-#[derive(Drop)]
+#[derive(Clone, Copy)]
 pub enum Event {
     Byte(u8),
     // A tick without a byte.
@@ -46,7 +46,7 @@ pub enum Event {
 }
 
 // Why a program is not loaded.
-#[derive(Drop)]
+#[derive(Clone, Copy)]
 pub enum Failure {
     ProgramLength,
     // A frame ID over 3.
@@ -64,7 +64,7 @@ pub enum Failure {
 }
 
 // What is to be done.
-#[derive(Drop)]
+#[derive(Clone, Copy)]
 pub enum Next {
     // Send the frame of the exchange, and wait for what the line gives.
     Send,
@@ -75,7 +75,7 @@ pub enum Next {
     Failed(Failure),
 }
 
-#[derive(Drop)]
+#[derive(Clone, Copy)]
 pub struct Turn {
     pub exchange: Exchange,
     pub next: Next,
