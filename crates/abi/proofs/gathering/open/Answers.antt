@@ -1,0 +1,26 @@
+-- The header decides.
+use Prim.Native.Nat.{ℕ}
+use mathlib.Core.List.{List}
+use mathlib.Core.Path.{◌≡◌, sym, ◌∙◌}
+use borrow.Author.Rules.{rules}
+use Rattle.abi.specs.Layout.{lent}
+use Rattle.abi.specs.Calls.{gather_told}
+use Rattle.abi.proofs.Ways.{opens, stops}
+use Rattle.abi.proofs.gathering.open.Goals as goal
+
+at : (k k' : ℕ) (n n' b b' : List ℕ) → k ≡ k' → n ≡ n' → b ≡ b' → gather_told k (lent n b) ≡ gather_told k' (lent n' b')
+at k k' n n' b b' e f g = rw (e, f, g)
+
+pub returns-then-is_good : goal.returns-then-is_good
+returns-then-is_good c =
+    let g = c.is_good in
+    let p = c.requires in
+    opens c.args.numbers.now c.args.bytes.now c.args.byte p.0.0 p.0.1 p.1.0 (sym g.ensures ∙ c.if-is_good.true) p.1.1
+
+pub returns : goal.returns
+returns c =
+    let g = c.is_good in
+    let p = c.requires in
+    let s = c.stop in
+    at _ _ _ _ _ _ s.ensures.0 s.ensures.1.0 s.ensures.1.1
+    ∙ stops c.args.numbers.now c.args.bytes.now c.args.byte p.0.0 p.0.1 p.1.0 (sym g.ensures ∙ c.if-is_good.false) p.1.1

@@ -1,0 +1,18 @@
+-- Each field is read at its place.
+use Prim.Native.Nat.{ℕ, ◌/◌}
+use mathlib.Core.Path.{◌≡◌}
+use native.Mathlib.Omega.{arith}
+use lib.ListN.{get_or}
+use borrow.Author.Rules.{rules}
+use Rattle.abi.specs.Layout.{state_in}
+use Rattle.abi.proofs.RoundTrip.{low}
+use Rattle.abi.proofs.layout.read.Goals as goal
+
+pub overflow_cast-result : goal.overflow_cast-result
+overflow_cast-result c = omega (arith, c.shared_slice_known-6-1.given 0)
+
+pub returns : goal.returns
+unfolding state_in
+returns c =
+    let l = low (get_or c.args.bytes.now 131 0) in
+    rw (l, c.part-4.ensures, c.phase_of.ensures, c.part-3.ensures, c.part-2.ensures, c.udi_in.ensures, c.part.ensures, c.body_in.ensures)

@@ -1,0 +1,8 @@
+-- The four bytes are those of the definition.
+use Rattle.endian.specs.Endian.{word}
+use borrow.Author.Rules.{rules}
+use Rattle.blake2s.proofs.stream.read_word.Goals as goal
+
+pub returns : goal.returns
+unfolding word
+returns c = c.word.ensures

@@ -1,0 +1,35 @@
+-- Each copy leaves what it copied (`copied`), and the four parts after one another are the string (`whole`).
+use mathlib.Core.Path.{◌≡◌, ◌∙◌}
+use mathlib.Core.List.{◌++◌}
+use native.Mathlib.Omega.{arith}
+use lib.ListN.{length, drop, set, replicate, length-set, length-append}
+use borrow.Rule.Slice.PartMut.{put_mid, same_len_mid}
+use Rattle.endian.proofs.Lists.{copied}
+use Rattle.cdi.proofs.Parts.{whole}
+use borrow.Author.Rules.{rules}
+use Rattle.cdi.proofs.string.Goals as goal
+
+pub slice_bounds-copy_from_slice-end-3 : goal.slice_bounds-copy_from_slice-end-3
+slice_bounds-copy_from_slice-end-3 c =
+    let l : length c.copy_from_slice.new.1.0 ≡ 32 = search rules in
+    simp (length-set, length-append) (omega arith)
+
+pub slice_bounds-copy_from_slice-end-4 : goal.slice_bounds-copy_from_slice-end-4
+slice_bounds-copy_from_slice-end-4 c =
+    let b = set (c.copy_from_slice.new.1.0 ++ replicate 65 0) 32 c.args.domain in
+    let l : length c.copy_from_slice.new.1.0 ≡ 32 = search rules in
+    let e : length (put_mid 33 32 b c.copy_from_slice-2.new.1.0) ≡ length b = same_len_mid 33 32 b c.copy_from_slice-2.new.1.0 (search rules) in
+    rw (e, length-set, length-append) (omega arith)
+
+pub returns : goal.returns
+returns c =
+    let a = c.args in
+    let b2 = set (c.copy_from_slice.new.1.0 ++ replicate 65 0) 32 a.domain in
+    let b3 = put_mid 33 32 b2 c.copy_from_slice-2.new.1.0 in
+    let hu : length a.t1 ≡ 32 = search rules in
+    let hm : length a.t3 ≡ 32 = search rules in
+    let hs : length a.t4 ≡ 32 = search rules in
+    let e1 : c.copy_from_slice.new.1.0 ≡ a.t1 = c.copy_from_slice.ensures.after ∙ copied a.t1 (replicate 97 0) 32 hu in
+    let e2 : c.copy_from_slice-2.new.1.0 ≡ a.t3 = c.copy_from_slice-2.ensures.after ∙ copied a.t3 (drop 33 b2) 32 hm in
+    let e3 : c.copy_from_slice-3.new.1.0 ≡ a.t4 = c.copy_from_slice-3.ensures.after ∙ copied a.t4 (drop 65 b3) 32 hs in
+    rw (e1, e2, e3) (whole a.t1 a.domain a.t3 hu hm a.t4)

@@ -1,0 +1,35 @@
+-- A refused call leaves the room; an accepted one has the frame at its front.
+use mathlib.Core.Path.{◌≡◌, sym, ◌∙◌}
+use lib.ListN.{length}
+use borrow.Author.Tests.{ne_eqb, lt-ltb, le-ltb}
+use Rattle.client.specs.Frames.{refusal, making}
+use Rattle.client.proofs.Numbers.{refused_tag, accepted_tag, given}
+use borrow.Author.Rules.{rules}
+use Rattle.client.proofs.make_frame.Goals as goal
+
+pub returns-then-room-lt129 : goal.returns-then-room-lt129
+unfolding making
+returns-then-room-lt129 c = rw (lt-ltb _ _ c.if-room-lt129.true)
+
+pub returns-in_default : goal.returns-in_default
+unfolding making
+returns-in_default c =
+    let h = c.check-answer in
+    let a = c.args in
+    let k = refusal (length a.program.now) a.id a.k in
+    let z : k ≡ 0 → ⊥ = λ e. refused_tag h.result c.in_default.keys2 (h.ensures ∙ e) in
+    rw (le-ltb _ _ c.if-room-lt129.false, ne_eqb k 0 z, h.ensures)
+
+pub body-requires : goal.body-requires
+body-requires c =
+    let accepted : refusal (length c.args.program.now) c.args.id c.args.k ≡ 0 =
+    sym c.check-answer.ensures ∙ accepted_tag c.check-answer.result c.in-Accepted.keys1 in
+    let g = given _ _ _ (accepted) in
+    ((g.some, g.small), g.frame)
+
+pub returns : goal.returns
+unfolding making
+returns c =
+    let accepted : refusal (length c.args.program.now) c.args.id c.args.k ≡ 0 =
+    sym c.check-answer.ensures ∙ accepted_tag c.check-answer.result c.in-Accepted.keys1 in
+    rw (le-ltb _ _ c.if-room-lt129.false, c.check-answer.ensures, accepted, c.put.ensures, c.body.ensures)

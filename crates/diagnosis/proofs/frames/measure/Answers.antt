@@ -1,0 +1,6 @@
+-- The digest is what finish writes.
+use borrow.Author.Rules.{rules}
+use Rattle.diagnosis.proofs.frames.measure.Goals as goal
+
+pub returns : goal.returns
+returns c = rw (c.judge-verdict.ensures, c.finish.ensures.1)

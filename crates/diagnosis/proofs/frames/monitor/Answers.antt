@@ -1,0 +1,6 @@
+-- By computation.
+use borrow.Author.Rules.{rules}
+use Rattle.diagnosis.proofs.frames.monitor.Goals as goal
+
+pub returns : goal.returns
+returns c = rw (c.nowhere-position.ensures, c.fresh_hash-hash.ensures)

@@ -1,0 +1,6 @@
+-- The position is the one after the byte.
+use borrow.Author.Rules.{rules}
+use Rattle.diagnosis.proofs.listening.moved.Goals as goal
+
+pub returns : goal.returns
+returns c = rw c.position_after-position.ensures

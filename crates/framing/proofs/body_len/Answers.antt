@@ -1,0 +1,18 @@
+-- Bits 7 and 2 decide.
+use Prim.Native.Nat.{◌/◌}
+use mathlib.Core.Path.{◌≡◌, sym, ◌∙◌}
+use native.Mathlib.Omega.{arith}
+use borrow.Author.Tests.{not-true, not-false}
+use borrow.Author.Rules.{rules}
+use Rattle.framing.proofs.Headers.{good_fields, bad_at}
+use Rattle.framing.proofs.body_len.Goals as goal
+
+pub returns-then-not-is_good : goal.returns-then-not-is_good
+returns-then-not-is_good c = let g = c.is_good in rw (bad_at _ (sym g.ensures ∙ not-true g.result c.if-not-is_good.true))
+
+pub returns : goal.returns
+returns c =
+    let g = c.is_good in
+    let b = c.args.header in
+    let low : b / 1 ≡ b = omega arith in
+    rw (good_fields b (sym g.ensures ∙ not-false g.result c.if-not-is_good.false), c.body_length.ensures, low)

@@ -1,0 +1,6 @@
+-- The state is the one of an end.
+use borrow.Author.Rules.{rules}
+use Rattle.head.proofs.gathering.stop.Goals as goal
+
+pub returns : goal.returns
+returns c = rw c.ended.ensures

@@ -1,0 +1,13 @@
+-- The tests are those of the definition.
+use borrow.Author.Tests.{eq-eqb, ne_eqb, le-leb, lt-leb}
+use borrow.Author.Rules.{rules}
+use Rattle.head.proofs.states.frame_ok.Goals as goal
+
+pub returns-then-got-eq0 : goal.returns-then-got-eq0
+returns-then-got-eq0 c = simp (eq-eqb _ _ c.if-got-eq0.true)
+
+pub returns-then-got-body_len : goal.returns-then-got-body_len
+returns-then-got-body_len c = simp (← c.body_len.ensures, ne_eqb _ _ c.if-got-eq0.false, le-leb _ _ c.if-got-body_len.true)
+
+pub returns : goal.returns
+returns c = simp (c.is_whole.ensures, ← c.body_len.ensures, ne_eqb _ _ c.if-got-eq0.false, lt-leb _ _ c.if-got-body_len.false)

@@ -1,0 +1,6 @@
+-- The state after a stop.
+use borrow.Author.Rules.{rules}
+use Rattle.loader.proofs.acting.stop.Goals as goal
+
+pub returns : goal.returns
+returns c = rw (c.plain.ensures, c.ended.ensures)

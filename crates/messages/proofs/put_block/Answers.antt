@@ -1,0 +1,14 @@
+-- Part by part.
+use Rattle.text.proofs.Texts.{then}
+use borrow.Author.Rules.{rules}
+use Rattle.messages.proofs.put_block.Goals as goal
+
+pub returns : goal.returns
+returns c =
+    then _ _ _ _ _
+    (then _ _ _ _ _
+    (then _ _ _ _ _
+    c.put_all-a.ensures
+    c.put_decimal-b.ensures)
+    c.put_all-c.ensures)
+    c.put_decimal.ensures

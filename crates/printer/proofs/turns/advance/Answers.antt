@@ -1,0 +1,10 @@
+-- By what is read next.
+use mathlib.Core.Path.{refl}
+use borrow.Author.Rules.{rules}
+use Rattle.printer.proofs.turns.advance.Goals as goal
+
+pub returns-in-End : goal.returns-in-End
+returns-in-End c = rw c.in-End.is (c.wait.ensures, refl)
+
+pub returns-in-Byte : goal.returns-in-Byte
+returns-in-Byte c = rw c.in-Byte.is c.receive.ensures

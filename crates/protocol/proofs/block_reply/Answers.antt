@@ -1,0 +1,8 @@
+-- Code and status, and zeros behind them.
+use Rattle.protocol.specs.Replies.{block_reply}
+use borrow.Author.Rules.{rules}
+use Rattle.protocol.proofs.block_reply.Goals as goal
+
+pub returns : goal.returns
+unfolding block_reply
+returns c = c.with_status.ensures

@@ -1,0 +1,15 @@
+-- The bytes stand after code and status, and what was not written is zero.
+use lib.ListN.{length, replicate}
+use Rattle.endian.proofs.Lists.{copied}
+use mathlib.Core.Path.{◌≡◌, ◌∙◌}
+use Rattle.protocol.specs.Replies.{digest_reply}
+use borrow.Author.Rules.{rules}
+use Rattle.protocol.proofs.digest_reply.Goals as goal
+
+pub returns : goal.returns
+unfolding digest_reply
+returns c =
+    let s = c.args.t2 in
+    let l : length s ≡ 32 = search rules in
+    let e = c.copy_from_slice.ensures.after ∙ copied s (replicate 32 0) 32 l in
+    c.with_status.ensures ∙ rw (e, l)

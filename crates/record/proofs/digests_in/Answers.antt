@@ -1,0 +1,6 @@
+-- Each call gives one digest.
+use borrow.Author.Rules.{rules}
+use Rattle.record.proofs.digests_in.Goals as goal
+
+pub returns : goal.returns
+returns c = rw (c.second_in.ensures, c.part.ensures)

@@ -1,0 +1,7 @@
+-- The answer's number is told.
+use Rattle.spool.specs.Salvage.{salvaging_as}
+use borrow.Author.Rules.{rules}
+use Rattle.spool.proofs.mastfrap_spool_salvage.Goals as goal
+
+pub returns : goal.returns
+returns c = rw c.answer_number.ensures c.salvage-a.ensures

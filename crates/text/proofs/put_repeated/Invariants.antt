@@ -1,0 +1,15 @@
+-- What is left, behind what is there, is the whole.
+use Prim.Native.Nat.{◌-◌}
+use native.Mathlib.Omega.{arith}
+use mathlib.Core.Path.{◌≡◌, refl, ◌∙◌}
+use lib.ListN.{replicate}
+use Rattle.text.specs.Text.{added}
+use Rattle.text.proofs.Texts.{one_of_exactly}
+use borrow.Author.Rules.{rules}
+use Rattle.text.proofs.put_repeated.Given as goal
+
+abbrev pub invariant-loop-left : goal.invariant-loop-left
+invariant-loop-left l = added l.text (replicate l.left l.b) ≡ added l.initial.text (replicate l.n l.b)
+
+abbrev pub decreases-loop-left : goal.decreases-loop-left
+decreases-loop-left l = l.left
