@@ -19,12 +19,12 @@ old z = start_in z.args.start.now z.args.cdi.now z.args.digest.now
 pub returns-then-not-holds : goal.returns-then-not-holds
 returns-then-not-holds c =
     let a = c.args in
-    no_state (memory (goal.at.returns-then-not-holds c).Start) a.room.now a.ram.now a.uds.now a.reply.now (old (goal.at.returns-then-not-holds c).Start) (sym c.holds.ensures ∙ not-true c.holds.result c.if-not-holds.true)
+    no_state (memory (goal.at.returns-then-not-holds c).Start) a.room.now a.ram.now a.uds.now a.reply.now (old (goal.at.returns-then-not-holds c).Start) (sym c.holds.ensures ∙ c.if-not-holds.true)
 
 pub returns-then-is_refused : goal.returns-then-is_refused
 returns-then-is_refused c =
     let held : holds c.args.bytes.now ≡ true =
-    sym c.holds.ensures ∙ not-false c.holds.result c.if-not-holds.false in
+    sym c.holds.ensures ∙ c.if-not-holds.false in
     let lengths : Lengths (memory ((goal.at.returns-then-is_refused c).Start)) =
     record { numbers = search rules; bytes = search rules } in
     let a = c.args in
@@ -40,7 +40,7 @@ returns-then-is_refused c =
 pub write-requires : goal.write-requires
 write-requires c =
     let held : holds c.args.bytes.now ≡ true =
-    sym c.holds.ensures ∙ not-false c.holds.result c.if-not-holds.false in
+    sym c.holds.ensures ∙ c.if-not-holds.false in
     let lengths : Lengths (memory ((goal.at.write-requires c).Start)) =
     record { numbers = search rules; bytes = search rules } in
     let a = c.args in
@@ -56,7 +56,7 @@ write-requires c =
 pub overflow_cast-reply : goal.overflow_cast-reply
 overflow_cast-reply c =
     let held : holds c.args.bytes.now ≡ true =
-    sym c.holds.ensures ∙ not-false c.holds.result c.if-not-holds.false in
+    sym c.holds.ensures ∙ c.if-not-holds.false in
     let lengths : Lengths (memory ((goal.at.overflow_cast-reply c).Start)) =
     record { numbers = search rules; bytes = search rules } in
     let a = c.args in
@@ -72,7 +72,7 @@ overflow_cast-reply c =
 pub returns : goal.returns
 returns c =
     let held : holds c.args.bytes.now ≡ true =
-    sym c.holds.ensures ∙ not-false c.holds.result c.if-not-holds.false in
+    sym c.holds.ensures ∙ c.if-not-holds.false in
     let lengths : Lengths (memory ((goal.at.returns c).Start)) =
     record { numbers = search rules; bytes = search rules } in
     let a = c.args in

@@ -13,7 +13,7 @@ pub returns-then-not-in_range : goal.returns-then-not-in_range
 unfolding update_context
 returns-then-not-in_range c =
     let a = c.args in
-    let r : in_range a.c ≡ false = sym c.in_range.ensures ∙ not-true _ c.if-not-in_range.true in
+    let r : in_range a.c ≡ false = sym c.in_range.ensures ∙ c.if-not-in_range.true in
     let e = update_range a.c (length a.part.now) r in
     (rw e, rw e)
 
@@ -21,7 +21,7 @@ pub returns-then-left-part : goal.returns-then-left-part
 unfolding update_context
 returns-then-left-part c =
     let a = c.args in
-    let r : in_range a.c ≡ true = sym c.in_range.ensures ∙ not-false _ c.if-not-in_range.false in
+    let r : in_range a.c ≡ true = sym c.in_range.ensures ∙ c.if-not-in_range.false in
     let e = update_message a.c (length a.part.now) r (omega arith) in
     (rw e, rw e)
 
@@ -29,6 +29,6 @@ pub returns : goal.returns
 unfolding update_context
 returns c =
     let a = c.args in
-    let r : in_range a.c ≡ true = sym c.in_range.ensures ∙ not-false _ c.if-not-in_range.false in
+    let r : in_range a.c ≡ true = sym c.in_range.ensures ∙ c.if-not-in_range.false in
     let e = update_accepted a.c (length a.part.now) r (omega arith) in
     (rw e, rw (c.extended.ensures, e))

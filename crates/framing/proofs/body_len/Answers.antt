@@ -8,11 +8,11 @@ use Rattle.framing.proofs.Headers.{good_fields, bad_at}
 use Rattle.framing.proofs.body_len.Goals as goal
 
 pub returns-then-not-is_good : goal.returns-then-not-is_good
-returns-then-not-is_good c = let g = c.is_good in rw (bad_at _ (sym g.ensures ∙ not-true g.result c.if-not-is_good.true))
+returns-then-not-is_good c = let g = c.is_good in rw (bad_at _ (sym g.ensures ∙ c.if-not-is_good.true))
 
 pub returns : goal.returns
 returns c =
     let g = c.is_good in
     let b = c.args.header in
     let low : b / 1 ≡ b = omega arith in
-    rw (good_fields b (sym g.ensures ∙ not-false g.result c.if-not-is_good.false), c.body_length.ensures, low)
+    rw (good_fields b (sym g.ensures ∙ c.if-not-is_good.false), c.body_length.ensures, low)

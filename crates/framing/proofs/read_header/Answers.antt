@@ -8,7 +8,7 @@ use Rattle.framing.proofs.Headers.{good_fields, bad_at}
 use Rattle.framing.proofs.read_header.Goals as goal
 
 pub returns-then-not-is_good : goal.returns-then-not-is_good
-returns-then-not-is_good c = let g = c.is_good in rw (bad_at _ (sym g.ensures ∙ not-true g.result c.if-not-is_good.true))
+returns-then-not-is_good c = let g = c.is_good in rw (bad_at _ (sym g.ensures ∙ c.if-not-is_good.true))
 
 pub returns : goal.returns
 returns c =
@@ -16,7 +16,7 @@ returns c =
     let b = c.args.b in
     let low : b / 1 ≡ b = omega arith in
     rw (
-      good_fields b (sym g.ensures ∙ not-false g.result c.if-not-is_good.false),
+      good_fields b (sym g.ensures ∙ c.if-not-is_good.false),
       c.frame_id.ensures,
       c.endpoint.ensures,
       c.body_length.ensures,

@@ -17,7 +17,7 @@ pub returns-then-record-ne256 : goal.returns-then-record-ne256
 returns-then-record-ne256 c = sym (by_record _ _ _ _ (omega arith) c.if-record-ne256.true)
 
 pub returns-then-not-inputs_fit : goal.returns-then-not-inputs_fit
-returns-then-not-inputs_fit c = sym (by_inputs _ _ _ _ (omega arith) c.if-record-ne256.false (sym c.inputs_fit.ensures ∙ not-true c.inputs_fit.result c.if-not-inputs_fit.true))
+returns-then-not-inputs_fit c = sym (by_inputs _ _ _ _ (omega arith) c.if-record-ne256.false (sym c.inputs_fit.ensures ∙ c.if-not-inputs_fit.true))
 
 pub measured_id-id-requires : goal.measured_id-id-requires
 measured_id-id-requires c =

@@ -12,9 +12,9 @@ returns-then-record-ne256 c = rw (eq-eqb _ _ c.if-uds-ne8.false, ne_eqb _ _ c.if
 pub returns-then-not-length_ok : goal.returns-then-not-length_ok
 returns-then-not-length_ok c =
     let l = c.length_ok in
-    rw (eq-eqb _ _ c.if-uds-ne8.false, eq-eqb _ _ c.if-record-ne256.false, ← l.ensures, not-true l.result c.if-not-length_ok.true)
+    rw (eq-eqb _ _ c.if-uds-ne8.false, eq-eqb _ _ c.if-record-ne256.false, ← l.ensures, c.if-not-length_ok.true)
 
 pub returns : goal.returns
 returns c =
     let l = c.length_ok in
-    rw (eq-eqb _ _ c.if-uds-ne8.false, eq-eqb _ _ c.if-record-ne256.false, ← l.ensures, not-false l.result c.if-not-length_ok.false)
+    rw (eq-eqb _ _ c.if-uds-ne8.false, eq-eqb _ _ c.if-record-ne256.false, ← l.ensures, c.if-not-length_ok.false)

@@ -4,7 +4,7 @@ use borrow.Author.Rules.{rules}
 use Rattle.record.proofs.second_in.Goals as goal
 
 pub returns-then-not-has_second : goal.returns-then-not-has_second
-returns-then-not-has_second c = let h = c.args.has_second in rw (not-true h c.if-not-has_second.true)
+returns-then-not-has_second c = let h = c.args.has_second in rw (c.if-not-has_second.true)
 
 pub returns : goal.returns
-returns c = let h = c.args.has_second in rw (not-false h c.if-not-has_second.false) c.part.ensures
+returns c = let h = c.args.has_second in rw (c.if-not-has_second.false) c.part.ensures

@@ -15,14 +15,14 @@ pub returns-then-not-length_ok : goal.returns-then-not-length_ok
 unfolding writing
 returns-then-not-length_ok c =
     let a = c.args in
-    let e = write_length (length a.program.now) (length a.room.now) (sym c.length_ok.ensures ∙ not-true c.length_ok.result c.if-not-length_ok.true) in
+    let e = write_length (length a.program.now) (length a.room.now) (sym c.length_ok.ensures ∙ c.if-not-length_ok.true) in
     rw (c.refused.ensures.0, c.refused.ensures.1, e) (sym (given_refused 40 (spool_of a.program.now) a.room.now (λ z. omega (arith, z))))
 
 pub returns-then-room-spool_blocks : goal.returns-then-room-spool_blocks
 unfolding writing
 returns-then-room-spool_blocks c =
     let fit : length_ok (length c.args.program.now) ≡ true =
-    sym c.length_ok.ensures ∙ not-false c.length_ok.result c.if-not-length_ok.false in
+    sym c.length_ok.ensures ∙ c.if-not-length_ok.false in
     let a = c.args in
     let h = rw c.spool_blocks.ensures at c.if-room-spool_blocks.true in
     let e = write_room (length a.program.now) (length a.room.now) (fit) h in
@@ -31,7 +31,7 @@ returns-then-room-spool_blocks c =
 pub spread-requires : goal.spread-requires
 spread-requires c =
     let fit : length_ok (length c.args.program.now) ≡ true =
-    sym c.length_ok.ensures ∙ not-false c.length_ok.result c.if-not-length_ok.false in
+    sym c.length_ok.ensures ∙ c.if-not-length_ok.false in
     let most : length c.args.program.now ≤ 131072 =
     length_most (length c.args.program.now) (fit) in
     (most, rw c.spool_blocks.ensures at c.if-room-spool_blocks.false)
@@ -40,7 +40,7 @@ pub returns : goal.returns
 unfolding writing
 returns c =
     let fit : length_ok (length c.args.program.now) ≡ true =
-    sym c.length_ok.ensures ∙ not-false c.length_ok.result c.if-not-length_ok.false in
+    sym c.length_ok.ensures ∙ c.if-not-length_ok.false in
     let a = c.args in
     let p = a.program.now in
     let h = rw c.spool_blocks.ensures at c.if-room-spool_blocks.false in
@@ -50,7 +50,7 @@ returns c =
 pub spool_blocks-requires : goal.spool_blocks-requires
 spool_blocks-requires c =
     let fit : length_ok (length c.args.program.now) ≡ true =
-    sym c.length_ok.ensures ∙ not-false c.length_ok.result c.if-not-length_ok.false in
+    sym c.length_ok.ensures ∙ c.if-not-length_ok.false in
     let most : length c.args.program.now ≤ 131072 =
     length_most (length c.args.program.now) (fit) in
     most
@@ -58,7 +58,7 @@ spool_blocks-requires c =
 pub overflow_mul-spool_blocks : goal.overflow_mul-spool_blocks
 overflow_mul-spool_blocks c =
     let fit : length_ok (length c.args.program.now) ≡ true =
-    sym c.length_ok.ensures ∙ not-false c.length_ok.result c.if-not-length_ok.false in
+    sym c.length_ok.ensures ∙ c.if-not-length_ok.false in
     let most : length c.args.program.now ≤ 131072 =
     length_most (length c.args.program.now) (fit) in
     omega (arith, c.spool_blocks.ensures, most)

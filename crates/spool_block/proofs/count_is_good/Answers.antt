@@ -11,25 +11,25 @@ use Rattle.spool_block.proofs.count_is_good.Goals as goal
 
 pub returns-then-not-is_last : goal.returns-then-not-is_last
 unfolding good_count
-returns-then-not-is_last c = rw (sym c.is_last.ensures ∙ not-true c.is_last.result c.if-not-is_last.true)
+returns-then-not-is_last c = rw (sym c.is_last.ensures ∙ c.if-not-is_last.true)
 
 pub returns-then-count-eq0 : goal.returns-then-count-eq0
 unfolding good_count
 returns-then-count-eq0 c =
     let last : (let a = c.args in eqb (a.place + 1) a.blocks ≡ true) =
-    sym c.is_last.ensures ∙ not-false c.is_last.result c.if-not-is_last.false in
+    sym c.is_last.ensures ∙ c.if-not-is_last.false in
     simp (last, c.if-count-eq0.true)
 
 pub returns-then-place-eq277 : goal.returns-then-place-eq277
 unfolding good_count
 returns-then-place-eq277 c =
     let last : (let a = c.args in eqb (a.place + 1) a.blocks ≡ true) =
-    sym c.is_last.ensures ∙ not-false c.is_last.result c.if-not-is_last.false in
+    sym c.is_last.ensures ∙ c.if-not-is_last.false in
     simp (last, eq-eqb _ _ c.if-place-eq277.true, le-leb 1 c.args.count (omega (arith, c.if-count-eq0.false)))
 
 pub returns : goal.returns
 unfolding good_count
 returns c =
     let last : (let a = c.args in eqb (a.place + 1) a.blocks ≡ true) =
-    sym c.is_last.ensures ∙ not-false c.is_last.result c.if-not-is_last.false in
+    sym c.is_last.ensures ∙ c.if-not-is_last.false in
     simp (last, ne_eqb _ _ c.if-place-eq277.false, le-leb 1 c.args.count (omega (arith, c.if-count-eq0.false)))

@@ -13,12 +13,12 @@ use Rattle.spool_block.proofs.first_fault.Goals as goal
 pub returns-then-not-check_is_good : goal.returns-then-not-check_is_good
 returns-then-not-check_is_good c =
     let a = c.args in
-    sym (bad_check a.blocks a.place a.b.now (sym c.check_is_good.ensures ∙ not-true c.check_is_good.result c.if-not-check_is_good.true))
+    sym (bad_check a.blocks a.place a.b.now (sym c.check_is_good.ensures ∙ c.if-not-check_is_good.true))
 
 pub returns-then-number_at-place : goal.returns-then-number_at-place
 returns-then-number_at-place c =
     let check : good_check c.args.b.now ≡ true =
-    sym c.check_is_good.ensures ∙ not-false c.check_is_good.result c.if-not-check_is_good.false in
+    sym c.check_is_good.ensures ∙ c.if-not-check_is_good.false in
     let a = c.args in
     sym (bad_number a.blocks a.place a.b.now (check) (λ e. c.if-number_at-place.true (c.number_at.ensures ∙ e)))
 
@@ -27,16 +27,16 @@ returns-then-not-count_is_good c =
     let number : (let a = c.args in number_in number_field a.b.now ≡ a.place) =
     sym c.number_at.ensures ∙ c.if-number_at-place.false in
     let check : good_check c.args.b.now ≡ true =
-    sym c.check_is_good.ensures ∙ not-false c.check_is_good.result c.if-not-check_is_good.false in
+    sym c.check_is_good.ensures ∙ c.if-not-check_is_good.false in
     let a = c.args in
     let f : good_count a.blocks a.place (count_in a.b.now) ≡ false =
-    rw (← c.number_at-count.ensures) (sym c.count_is_good.ensures ∙ not-true c.count_is_good.result c.if-not-count_is_good.true) in
+    rw (← c.number_at-count.ensures) (sym c.count_is_good.ensures ∙ c.if-not-count_is_good.true) in
     sym (bad_count a.blocks a.place a.b.now (check) (number) f)
 
 pub filler_is_good-requires : goal.filler_is_good-requires
 filler_is_good-requires c =
     let count : (let a = c.args in good_count a.blocks a.place (count_in a.b.now) ≡ true) =
-    rw (← c.number_at-count.ensures) (sym c.count_is_good.ensures ∙ not-false c.count_is_good.result c.if-not-count_is_good.false) in
+    rw (← c.number_at-count.ensures) (sym c.count_is_good.ensures ∙ c.if-not-count_is_good.false) in
     let a = c.args in
     let e = c.number_at-count.ensures in
     let m : count_in a.b.now ≤ 472 = count_most a.blocks a.place (count_in a.b.now) (count) in
@@ -46,21 +46,21 @@ filler_is_good-requires c =
 pub returns-then-not-filler_is_good : goal.returns-then-not-filler_is_good
 returns-then-not-filler_is_good c =
     let count : (let a = c.args in good_count a.blocks a.place (count_in a.b.now) ≡ true) =
-    rw (← c.number_at-count.ensures) (sym c.count_is_good.ensures ∙ not-false c.count_is_good.result c.if-not-count_is_good.false) in
+    rw (← c.number_at-count.ensures) (sym c.count_is_good.ensures ∙ c.if-not-count_is_good.false) in
     let number : (let a = c.args in number_in number_field a.b.now ≡ a.place) =
     sym c.number_at.ensures ∙ c.if-number_at-place.false in
     let check : good_check c.args.b.now ≡ true =
-    sym c.check_is_good.ensures ∙ not-false c.check_is_good.result c.if-not-check_is_good.false in
+    sym c.check_is_good.ensures ∙ c.if-not-check_is_good.false in
     let a = c.args in
-    sym (bad_filler a.blocks a.place a.b.now (check) (number) (count) (sym c.filler_is_good.ensures ∙ not-true c.filler_is_good.result c.if-not-filler_is_good.true))
+    sym (bad_filler a.blocks a.place a.b.now (check) (number) (count) (sym c.filler_is_good.ensures ∙ c.if-not-filler_is_good.true))
 
 pub returns : goal.returns
 returns c =
     let count : (let a = c.args in good_count a.blocks a.place (count_in a.b.now) ≡ true) =
-    rw (← c.number_at-count.ensures) (sym c.count_is_good.ensures ∙ not-false c.count_is_good.result c.if-not-count_is_good.false) in
+    rw (← c.number_at-count.ensures) (sym c.count_is_good.ensures ∙ c.if-not-count_is_good.false) in
     let number : (let a = c.args in number_in number_field a.b.now ≡ a.place) =
     sym c.number_at.ensures ∙ c.if-number_at-place.false in
     let check : good_check c.args.b.now ≡ true =
-    sym c.check_is_good.ensures ∙ not-false c.check_is_good.result c.if-not-check_is_good.false in
+    sym c.check_is_good.ensures ∙ c.if-not-check_is_good.false in
     let a = c.args in
-    sym (good_block a.blocks a.place a.b.now (check) (number) (count) (sym c.filler_is_good.ensures ∙ not-false c.filler_is_good.result c.if-not-filler_is_good.false))
+    sym (good_block a.blocks a.place a.b.now (check) (number) (count) (sym c.filler_is_good.ensures ∙ c.if-not-filler_is_good.false))

@@ -14,7 +14,7 @@ use Rattle.diagnosis.proofs.listening.hear_byte.Goals as goal
 
 pub returns-then-not-is_open : goal.returns-then-not-is_open
 unfolding heard_byte
-returns-then-not-is_open c = let o = c.is_open in rw (← o.ensures, not-true o.result c.if-not-is_open.true)
+returns-then-not-is_open c = let o = c.is_open in rw (← o.ensures, c.if-not-is_open.true)
 
 pub frame-requires : goal.frame-requires
 frame-requires c =
@@ -26,7 +26,7 @@ returns-in-Refused c =
     let answered : (a : Answer) → c.gather-g.result.answer ≡ a
     → by_report (report_of a) c.gather-g.result.state c.args.w ≡ heard_byte c.args.w c.args.b =
     λ a. λ e. let z = c.args in
-    heard_as z.w z.b c.gather-g.result a (sym c.is_open.ensures ∙ not-false _ c.if-not-is_open.false) c.gather-g.ensures e in
+    heard_as z.w z.b c.gather-g.result a (sym c.is_open.ensures ∙ c.if-not-is_open.false) c.gather-g.ensures e in
     answered _ c.in-Refused.is
 
 pub returns-in-Continue : goal.returns-in-Continue
@@ -34,7 +34,7 @@ returns-in-Continue c =
     let answered : (a : Answer) → c.gather-g.result.answer ≡ a
     → by_report (report_of a) c.gather-g.result.state c.args.w ≡ heard_byte c.args.w c.args.b =
     λ a. λ e. let z = c.args in
-    heard_as z.w z.b c.gather-g.result a (sym c.is_open.ensures ∙ not-false _ c.if-not-is_open.false) c.gather-g.ensures e in
+    heard_as z.w z.b c.gather-g.result a (sym c.is_open.ensures ∙ c.if-not-is_open.false) c.gather-g.ensures e in
     c.moved.ensures ∙ answered _ c.in-Continue.is
 
 pub returns-in-Whole : goal.returns-in-Whole
@@ -42,7 +42,7 @@ returns-in-Whole c =
     let answered : (a : Answer) → c.gather-g.result.answer ≡ a
     → by_report (report_of a) c.gather-g.result.state c.args.w ≡ heard_byte c.args.w c.args.b =
     λ a. λ e. let z = c.args in
-    heard_as z.w z.b c.gather-g.result a (sym c.is_open.ensures ∙ not-false _ c.if-not-is_open.false) c.gather-g.ensures e in
+    heard_as z.w z.b c.gather-g.result a (sym c.is_open.ensures ∙ c.if-not-is_open.false) c.gather-g.ensures e in
     c.frame.ensures ∙ ap (λ (x : Monitor). frame_heard (request_of x.head) x) c.moved-in-Whole.ensures ∙ answered _ c.in-Whole.is
 
 pub returns-in-Stopped : goal.returns-in-Stopped
@@ -50,7 +50,7 @@ returns-in-Stopped c =
     let answered : (a : Answer) → c.gather-g.result.answer ≡ a
     → by_report (report_of a) c.gather-g.result.state c.args.w ≡ heard_byte c.args.w c.args.b =
     λ a. λ e. let z = c.args in
-    heard_as z.w z.b c.gather-g.result a (sym c.is_open.ensures ∙ not-false _ c.if-not-is_open.false) c.gather-g.ensures e in
+    heard_as z.w z.b c.gather-g.result a (sym c.is_open.ensures ∙ c.if-not-is_open.false) c.gather-g.ensures e in
     c.ruled.ensures ∙ ap (λ (x : Monitor). ruled x (Stopped HeaderBit)) c.moved-in-Stopped.ensures ∙ answered _ c.in-Stopped.is
 
 pub returns-in-Started : goal.returns-in-Started
@@ -58,5 +58,5 @@ returns-in-Started c =
     let answered : (a : Answer) → c.gather-g.result.answer ≡ a
     → by_report (report_of a) c.gather-g.result.state c.args.w ≡ heard_byte c.args.w c.args.b =
     λ a. λ e. let z = c.args in
-    heard_as z.w z.b c.gather-g.result a (sym c.is_open.ensures ∙ not-false _ c.if-not-is_open.false) c.gather-g.ensures e in
+    heard_as z.w z.b c.gather-g.result a (sym c.is_open.ensures ∙ c.if-not-is_open.false) c.gather-g.ensures e in
     answered _ c.in-Started.is

@@ -4,9 +4,9 @@ use borrow.Author.Rules.{rules}
 use Rattle.head.proofs.states.allowed.Goals as goal
 
 pub returns-then-not-c : goal.returns-then-not-c
-returns-then-not-c c = let v = c.args.c.verify in rw (not-true v c.if-not-c.true)
+returns-then-not-c c = let v = c.args.c.verify in rw (c.if-not-c.true)
 
 pub returns : goal.returns
 returns c =
     let v = c.args.c.verify in
-    rw (not-false v c.if-not-c.false) c.one_of.ensures
+    rw (c.if-not-c.false) c.one_of.ensures

@@ -12,7 +12,7 @@ pub returns-then-not-fits : goal.returns-then-not-fits
 returns-then-not-fits c =
     let a = c.args in
     does_not_fit _ a.size a.c a.ram.now a.uds.now _ c.fits2.result c.front-program.ensures c.fits2.ensures
-    (not-true c.fits2.result c.if-not-fits.true) c.end.result c.end.ensures
+    (c.if-not-fits.true) c.end.result c.end.ensures
 
 pub measure-digest-requires : goal.measure-digest-requires
 measure-digest-requires c =
@@ -20,7 +20,7 @@ measure-digest-requires c =
     × (c.args.size ≤ length c.args.ram.now) =
     let a = c.args in
     program_fits _ a.size a.c a.ram.now a.uds.now _ c.fits2.result c.front-program.ensures c.fits2.ensures
-    (not-false c.fits2.result c.if-not-fits.false) in
+    (c.if-not-fits.false) in
     let f = fitted in let h = c.requires.0 in omega arith
 
 pub copy_to-requires : goal.copy_to-requires
@@ -29,7 +29,7 @@ copy_to-requires c =
     × (c.args.size ≤ length c.args.ram.now) =
     let a = c.args in
     program_fits _ a.size a.c a.ram.now a.uds.now _ c.fits2.result c.front-program.ensures c.fits2.ensures
-    (not-false c.fits2.result c.if-not-fits.false) in
+    (c.if-not-fits.false) in
     let f = fitted in omega arith
 
 pub overflow_cast-size : goal.overflow_cast-size
@@ -38,7 +38,7 @@ overflow_cast-size c =
     × (c.args.size ≤ length c.args.ram.now) =
     let a = c.args in
     program_fits _ a.size a.c a.ram.now a.uds.now _ c.fits2.result c.front-program.ensures c.fits2.ensures
-    (not-false c.fits2.result c.if-not-fits.false) in
+    (c.if-not-fits.false) in
     let f = fitted in
     let h = c.requires.0 in
     record { fits = omega arith }
@@ -47,5 +47,5 @@ pub returns : goal.returns
 returns c =
     let a = c.args in
     booted _ a.size a.c a.ram.now a.uds.now _ c.fits2.result c.front-program.ensures c.fits2.ensures
-    (not-false c.fits2.result c.if-not-fits.false) c.measure-digest.result c.of_size-p.result c.start_or_stop.result _ _ c.measure-digest.ensures
+    (c.if-not-fits.false) c.measure-digest.result c.of_size-p.result c.start_or_stop.result _ _ c.measure-digest.ensures
     c.copy_to.ensures c.of_size-p.ensures c.start_or_stop.ensures

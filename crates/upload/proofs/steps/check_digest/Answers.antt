@@ -6,7 +6,7 @@ use Rattle.upload.proofs.steps.check_digest.Goals as goal
 pub returns-then-not-equal : goal.returns-then-not-equal
 returns-then-not-equal c =
     let e = c.equal in
-    rw (c.failed.ensures, ← e.ensures, not-true e.result c.if-not-equal.true)
+    rw (c.failed.ensures, ← e.ensures, c.if-not-equal.true)
 
 pub returns : goal.returns
-returns c = let e = c.equal in rw (← e.ensures, not-false e.result c.if-not-equal.false)
+returns c = let e = c.equal in rw (← e.ensures, c.if-not-equal.false)
