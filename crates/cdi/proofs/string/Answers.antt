@@ -26,10 +26,10 @@ returns c =
     let a = c.args in
     let b2 = set (c.copy_from_slice.new.1.0 ++ replicate 65 0) 32 a.domain in
     let b3 = put_mid 33 32 b2 c.copy_from_slice-2.new.1.0 in
-    let hu : length a.t1 ≡ 32 = search rules in
-    let hm : length a.t3 ≡ 32 = search rules in
-    let hs : length a.t4 ≡ 32 = search rules in
-    let e1 : c.copy_from_slice.new.1.0 ≡ a.t1 = c.copy_from_slice.ensures.after ∙ copied a.t1 (replicate 97 0) 32 hu in
-    let e2 : c.copy_from_slice-2.new.1.0 ≡ a.t3 = c.copy_from_slice-2.ensures.after ∙ copied a.t3 (drop 33 b2) 32 hm in
-    let e3 : c.copy_from_slice-3.new.1.0 ≡ a.t4 = c.copy_from_slice-3.ensures.after ∙ copied a.t4 (drop 65 b3) 32 hs in
-    rw (e1, e2, e3) (whole a.t1 a.domain a.t3 hu hm a.t4)
+    let hu : length a.uds ≡ 32 = search rules in
+    let hm : length a.measurement ≡ 32 = search rules in
+    let hs : length a.uss ≡ 32 = search rules in
+    let e1 : c.copy_from_slice.new.1.0 ≡ a.uds = c.copy_from_slice.ensures.after ∙ copied a.uds (replicate 97 0) 32 hu in
+    let e2 : c.copy_from_slice-2.new.1.0 ≡ a.measurement = c.copy_from_slice-2.ensures.after ∙ copied a.measurement (drop 33 b2) 32 hm in
+    let e3 : c.copy_from_slice-3.new.1.0 ≡ a.uss = c.copy_from_slice-3.ensures.after ∙ copied a.uss (drop 65 b3) 32 hs in
+    rw (e1, e2, e3) (whole a.uds a.domain a.measurement hu hm a.uss)

@@ -5,5 +5,5 @@ use Rattle.compression.proofs.apart.Goals as goal
 
 pub returns : goal.returns
 returns c =
-    let l : length c.args.t1 ≡ 16 = search rules in
-    each_of 16 c.args.t1 l
+    let l : length c.args.v ≡ 16 = search rules in
+    each_of 16 c.args.v l

@@ -8,5 +8,5 @@ pub returns : goal.returns
 unfolding iv
 returns c =
     let a = c.args in
-    let l : length a.t1 ≡ 8 = search rules in
-    rw c.inverted_if.ensures (laid_out_is a.t1 a.t a.last l)
+    let l : length a.h ≡ 8 = search rules in
+    rw c.inverted_if.ensures (laid_out_is a.h a.t a.last l)

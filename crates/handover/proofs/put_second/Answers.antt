@@ -9,9 +9,9 @@ use Rattle.handover.proofs.put_second.Goals as goal
 
 pub returns-then-mask-eq1 : goal.returns-then-mask-eq1
 returns-then-mask-eq1 c =
-    let size : length c.args.t3 ≡ 32 =
+    let size : length c.args.second ≡ 32 =
     search rules in
-    rw c.if-mask-eq1.true (c.put.ensures ∙ ap (λ (n : ℕ). put (record { from = 72; size = n }) c.args.t3 c.args.out.now) (size))
+    rw c.if-mask-eq1.true (c.put.ensures ∙ ap (λ (n : ℕ). put (record { from = 72; size = n }) c.args.second c.args.out.now) (size))
 
 pub returns-else-mask-eq1 : goal.returns-else-mask-eq1
 returns-else-mask-eq1 c = rw (ne_eqb _ 1 c.if-mask-eq1.false)

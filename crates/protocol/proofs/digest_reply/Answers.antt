@@ -9,7 +9,7 @@ use Rattle.protocol.proofs.digest_reply.Goals as goal
 pub returns : goal.returns
 unfolding digest_reply
 returns c =
-    let s = c.args.t2 in
+    let s = c.args.digest in
     let l : length s ≡ 32 = search rules in
     let e = c.copy_from_slice.ensures.after ∙ copied s (replicate 32 0) 32 l in
     c.with_status.ensures ∙ rw (e, l)

@@ -9,7 +9,7 @@ use Rattle.protocol.proofs.udi_reply.Goals as goal
 pub returns : goal.returns
 unfolding udi_reply
 returns c =
-    let s = c.args.t2 in
+    let s = c.args.udi in
     let l : length s ≡ 8 = search rules in
     let e = c.copy_from_slice.ensures.after ∙ copied s (replicate 8 0) 8 l in
     c.with_status.ensures ∙ rw (e, l)

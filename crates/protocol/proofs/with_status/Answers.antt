@@ -14,6 +14,6 @@ first_two (x ∷ y ∷ body) a b l = refl
 
 pub returns : goal.returns
 returns c =
-    let body = c.args.t5 in
+    let body = c.args.body in
     let l : length body ≡ 128 = search rules in
     rw (c.reply_header.ensures, c.status_number.ensures, first_two body _ _ l)

@@ -7,7 +7,7 @@ use Rattle.record.proofs.read.Goals as goal
 pub returns : goal.returns
 unfolding record_at
 returns c =
-    let l = c.args.t1 in
+    let l = c.args.bytes in
     rw (
       c.part.ensures,
       c.digests_in.ensures,

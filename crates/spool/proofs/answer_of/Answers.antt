@@ -7,6 +7,6 @@ use Rattle.spool.proofs.answer_of.Goals as goal
 
 pub returns-in_default : goal.returns-in_default
 returns-in_default c =
-    let r = c.in_default-own.rest in
+    let r = c.in_default.in_default-own.rest in
     let h = c.requires r.0.0.0.1 in
     omega (arith, h.0, h.1, r.0.0.1, r.0.1, r.1)

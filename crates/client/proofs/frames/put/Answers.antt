@@ -14,5 +14,5 @@ shape_of-room c = same_len_mid {X = ℕ} 1 128 (set c.args.room.now 0 c.header.r
 pub returns : goal.returns
 returns c =
     let a = c.args in
-    let l : length a.t3 ≡ 128 = search rules in
-    rw (c.copy_from_slice.ensures.after, c.header.ensures) (put_command a.room.now a.t3 (command_header a.id) c.requires l)
+    let l : length a.body ≡ 128 = search rules in
+    rw (c.copy_from_slice.ensures.after, c.header.ensures) (put_command a.room.now a.body (command_header a.id) c.requires l)

@@ -6,7 +6,7 @@ use borrow.Author.Rules.{rules}
 use Rattle.printer.proofs.input.begin.Goals as goal
 
 pub slice_bounds-begin-end : goal.slice_bounds-begin-end
-slice_bounds-begin-end c = let l : length c.args.t1 ≡ 296 = search rules in rw length-take (omega arith)
+slice_bounds-begin-end c = let l : length c.args.front ≡ 296 = search rules in rw length-take (omega arith)
 
 pub returns : goal.returns
 returns c = rw (← c.udi_of-udi.ensures) c.begin.ensures

@@ -12,4 +12,4 @@ pub returns : goal.returns
 returns c =
     let a = c.args in
     rw (c.put.ensures, c.put_hex.ensures, c.first.ensures, c.letter-begun.ensures, c.empty.ensures)
-    (in_three (text_of []) (82 ∷ 32 ∷ []) (hex_of (take a.n a.t1)) (10 ∷ []) ∙ behind [] _)
+    (in_three (text_of []) (82 ∷ 32 ∷ []) (hex_of (take a.n a.room)) (10 ∷ []) ∙ behind [] _)

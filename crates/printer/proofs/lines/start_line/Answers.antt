@@ -9,4 +9,4 @@ pub returns : goal.returns
 returns c =
     let a = c.args in
     rw (c.put.ensures, c.put_hex.ensures, c.put-sized.ensures, c.put_decimal.ensures, c.letter.ensures)
-    (in_five a.t (83 ∷ 32 ∷ []) (decimal_of a.size) (32 ∷ []) (hex_of a.t3) (10 ∷ []))
+    (in_five a.t (83 ∷ 32 ∷ []) (decimal_of a.size) (32 ∷ []) (hex_of a.cdi) (10 ∷ []))
