@@ -83,7 +83,8 @@ pub fn front(record: &[u8]) -> [u8; 256]
     ensures { result ≡ padded 256 (take 256 «record».now) }
 {
     let mut bytes = [0u8; 256];
-    bytes.copy_from_slice(endian::first(record, 256));
+    let read = endian::first(record, 256);
+    bytes[..read.len()].copy_from_slice(read);
     bytes
 }
 
