@@ -14,5 +14,5 @@ returns-in-2 c = simp c.in-2.is
 
 pub returns-in_default : goal.returns-in_default
 returns-in_default c =
-    let e : c.args.code ≡ 3 = omega (arith, c.in_default.in_default.in_default-own.rest.1, c.in_default.in_default-own.rest.0.1, c.in_default.in_default-own.rest.0.0.1) in
+    let e : c.args.code ≡ 3 = omega (arith, c.in_default.in_default-own.rest.1, c.in_default.in_default-own.rest.0.1, c.in_default.in_default-own.rest.0.0.1) in
     simp e

@@ -16,5 +16,5 @@ returns-in-128 c = simp c.in-128.is
 
 pub returns-in_default : goal.returns-in_default
 returns-in_default c =
-    let r = c.in_default.in_default.in_default-own.rest in
+    let r = c.in_default.in_default-own.rest in
     simp (ne_eqb _ _ r.1, ne_eqb _ _ r.0.1, ne_eqb _ _ r.0.0.1, ne_eqb _ _ r.0.0.0.1)
