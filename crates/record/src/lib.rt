@@ -82,9 +82,9 @@ fn part(bytes: &[u8], from: usize) -> [u8; 32]
 pub fn front(record: &[u8]) -> [u8; 256]
     ensures { result ≡ padded 256 (take 256 «record».now) }
 {
-    let mut bytes = [0u8; 256];
     let read = endian::first(record, 256);
-    bytes[..read.len()].copy_from_slice(read);
+    let mut bytes = [0u8; 256];
+    endian::put(&mut bytes, 0, read);
     bytes
 }
 

@@ -14,7 +14,7 @@ unfolding hash_output
 returns-in_default c =
     let a = c.args in
     let n = hash_number (length a.key.now) (length a.msg.now) (length a.out.now) in
-    let z : n ≡ 0 → ⊥ = λ e. refused_tag c.check_lengths-answer.result c.in_default.keys2 (c.check_lengths-answer.ensures ∙ e) in
+    let z : n ≡ 0 → ⊥ = λ e. refused_tag c.check_lengths-answer.result c.in_default.in_default-own.keys2 (c.check_lengths-answer.ensures ∙ e) in
     (c.check_lengths-answer.ensures, rw (ne_eqb n 0 z))
 
 pub whole-requires : goal.whole-requires
@@ -28,5 +28,5 @@ pub returns : goal.returns
 unfolding hash_output
 returns c =
     let number : hash_number kk ll nn ≡ 0 =
-    sym c.check_lengths-answer.ensures ∙ accepted_tag c.check_lengths-answer.result c.in-Accepted.keys1 in
+    sym c.check_lengths-answer.ensures ∙ accepted_tag c.check_lengths-answer.result c.in-Accepted.in-Accepted-own.keys1 in
     (c.check_lengths-answer.ensures, rw (c.whole.ensures, number))

@@ -17,13 +17,13 @@ returns-in_default c =
     let h = c.check-answer in
     let a = c.args in
     let k = refusal (length a.program.now) a.id a.k in
-    let z : k ≡ 0 → ⊥ = λ e. refused_tag h.result c.in_default.keys2 (h.ensures ∙ e) in
+    let z : k ≡ 0 → ⊥ = λ e. refused_tag h.result c.in_default.in_default-own.keys2 (h.ensures ∙ e) in
     rw (le-ltb _ _ c.if-room-lt129.false, ne_eqb k 0 z, h.ensures)
 
 pub body-requires : goal.body-requires
 body-requires c =
     let accepted : refusal (length c.args.program.now) c.args.id c.args.k ≡ 0 =
-    sym c.check-answer.ensures ∙ accepted_tag c.check-answer.result c.in-Accepted.keys1 in
+    sym c.check-answer.ensures ∙ accepted_tag c.check-answer.result c.in-Accepted.in-Accepted-own.keys1 in
     let g = given _ _ _ (accepted) in
     ((g.some, g.small), g.frame)
 
@@ -31,5 +31,5 @@ pub returns : goal.returns
 unfolding making
 returns c =
     let accepted : refusal (length c.args.program.now) c.args.id c.args.k ≡ 0 =
-    sym c.check-answer.ensures ∙ accepted_tag c.check-answer.result c.in-Accepted.keys1 in
+    sym c.check-answer.ensures ∙ accepted_tag c.check-answer.result c.in-Accepted.in-Accepted-own.keys1 in
     rw (le-ltb _ _ c.if-room-lt129.false, c.check-answer.ensures, accepted, c.put.ensures, c.body.ensures)

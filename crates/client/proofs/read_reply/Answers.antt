@@ -19,13 +19,13 @@ returns-in_default c =
     let h = c.check-answer in
     let a = c.args in
     let k = refusal a.len a.id a.k in
-    let z : k ≡ 0 → ⊥ = λ e. refused_tag h.result c.in_default.keys2 (h.ensures ∙ e) in
+    let z : k ≡ 0 → ⊥ = λ e. refused_tag h.result c.in_default.in_default-own.keys2 (h.ensures ∙ e) in
     rw (c.refused.ensures, h.ensures, ne_eqb k 0 z)
 
 pub overflow_cast-len : goal.overflow_cast-len
 overflow_cast-len c =
     let accepted : refusal c.args.len c.args.id c.args.k ≡ 0 =
-    sym c.check-answer.ensures ∙ accepted_tag c.check-answer.result c.in-Accepted.keys1 in
+    sym c.check-answer.ensures ∙ accepted_tag c.check-answer.result c.in-Accepted.in-Accepted-own.keys1 in
     let g = given _ _ _ (accepted) in omega (arith, g.small)
 
 pub difference_in-d-requires : goal.difference_in-d-requires
@@ -38,9 +38,9 @@ pub returns-in_default-d : goal.returns-in_default-d
 unfolding taking
 returns-in_default-d c =
     let accepted : refusal c.args.len c.args.id c.args.k ≡ 0 =
-    sym c.check-answer.ensures ∙ accepted_tag c.check-answer.result c.in-Accepted.keys1 in
+    sym c.check-answer.ensures ∙ accepted_tag c.check-answer.result c.in-Accepted.in-Accepted-own.keys1 in
     let d = c.difference_in-d in
-    rw (c.refused-in_default-d.ensures, accepted, ← c.reply_to-x.ensures, ← d.ensures, differs_tag d.result c.in_default-d.keys2)
+    rw (c.refused-in_default-d.ensures, accepted, ← c.reply_to-x.ensures, ← d.ensures, differs_tag d.result c.in_default-d.in_default-d-own.keys2)
 
 pub bounds-reply-2 : goal.bounds-reply-2
 bounds-reply-2 c =

@@ -15,13 +15,13 @@ returns-in_default c =
     let h = c.check-answer in
     let a = c.args in
     let k = refusal a.len a.id a.k in
-    let z : k ≡ 0 → ⊥ = λ e. refused_tag h.result c.in_default.keys2 (h.ensures ∙ e) in
+    let z : k ≡ 0 → ⊥ = λ e. refused_tag h.result c.in_default.in_default-own.keys2 (h.ensures ∙ e) in
     rw (ne_eqb k 0 z)
 
 pub overflow_cast-len : goal.overflow_cast-len
 overflow_cast-len c =
     let accepted : refusal c.args.len c.args.id c.args.k ≡ 0 =
-    sym c.check-answer.ensures ∙ accepted_tag c.check-answer.result c.in-Accepted.keys1 in
+    sym c.check-answer.ensures ∙ accepted_tag c.check-answer.result c.in-Accepted.in-Accepted-own.keys1 in
     let g = given _ _ _ (accepted) in omega (arith, g.small)
 
 pub difference_in-requires : goal.difference_in-requires
@@ -34,5 +34,5 @@ pub returns : goal.returns
 unfolding differing
 returns c =
     let accepted : refusal c.args.len c.args.id c.args.k ≡ 0 =
-    sym c.check-answer.ensures ∙ accepted_tag c.check-answer.result c.in-Accepted.keys1 in
+    sym c.check-answer.ensures ∙ accepted_tag c.check-answer.result c.in-Accepted.in-Accepted-own.keys1 in
     rw (accepted, ← c.reply_to.ensures) c.difference_in.ensures

@@ -17,13 +17,13 @@ use Rattle.blake2s.proofs.stream.closed.Goals as goal
 pub clear_from-requires : goal.clear_from-requires
 clear_from-requires c =
     let block_length : length c.args.c.block ≡ 64 =
-    search (rules, c.well-formed.0) in
+    search (rules, c.well_formed.0) in
     (block_length, c.fill.ensures.1)
 
 pub close-requires : goal.close-requires
 close-requires c =
     let block_length : length c.args.c.block ≡ 64 =
-    search (rules, c.well-formed.0) in
+    search (rules, c.well_formed.0) in
     let a = c.args.c in
     let n = c.fill.result in
     let b = block_length in

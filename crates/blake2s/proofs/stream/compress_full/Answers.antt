@@ -45,10 +45,10 @@ compress_blocks-requires c =
     64 - i.before.before.args.at in
     let s : List ℕ =
     i.before.before.args.s.now in
-    let full_length : length c.copy_from_slice.new.0 ≡ 64 =
+    let full_length : length c.copy.new.0 ≡ 64 =
     let z = i.before.before in
     let a = z.args in
-    rw c.copy_from_slice.ensures
+    rw c.copy.ensures
     (full_long a.block.now a.n a.at z.requires.0 z.requires.1 z.requires.2 (s) (room) (rest) refl (more) (drop_whole (room) (s))) in
     let l = full_length in
     (omega arith, omega arith, omega arith)
@@ -70,10 +70,10 @@ compress_blocks-requires-2 c =
 
 pub returns : goal.returns
 returns c =
-    let full_length : length c.copy_from_slice.new.0 ≡ 64 =
+    let full_length : length c.copy.new.0 ≡ 64 =
     let z = i.before.before in
     let a = z.args in
-    rw c.copy_from_slice.ensures
+    rw c.copy.ensures
     (full_long a.block.now a.n a.at z.requires.0 z.requires.1 z.requires.2 (s) (room) (rest) refl (more) (drop_whole (room) (s))) in
     let rest : List ℕ =
     take (length s - room) (drop room s) in
@@ -91,7 +91,7 @@ returns c =
     let n = c.before_final-k.ensures in
     let f = from_fits a.block.now a.n a.at l.0 l.1 l.2 (s) (room) (rest) refl m e n in (
       state_long a.block.now a.n a.at l.0 l.1 l.2 (s) (room) (rest) refl m e a.h.now
-          c.copy_from_slice.ensures c.compress_blocks.ensures n c.compress_blocks-2.ensures,
+          c.copy.ensures c.compress_blocks.ensures n c.compress_blocks-2.ensures,
       full_length,
       f.0,
       f.1,

@@ -11,7 +11,7 @@ use Rattle.blake2s.proofs.stream.extended.Goals as goal
 pub absorb-requires : goal.absorb-requires
 absorb-requires c =
     let block_length : length c.args.c.block ≡ 64 =
-    search (rules, c.well-formed.0) in
+    search (rules, c.well_formed.0) in
     let a = c.args in
     let o = bytes_bound a.c.keyed a.c.message in
     (block_length, omega arith, omega arith)

@@ -13,7 +13,7 @@ pub absorb-requires : goal.absorb-requires
 absorb-requires c =
     let a = c.args in
     let o = bytes_bound (not (eqb (length a.key.now) 0)) 0 in
-    (rw (c.copy_from_slice.ensures, copied_padded a.key.now) (length_padded a.key.now (omega arith)), c.requires.1, omega arith)
+    (rw (c.copy.ensures, copied_padded a.key.now) (length_padded a.key.now (omega arith)), c.requires.1, omega arith)
 
 pub close-requires : goal.close-requires
 close-requires c =
@@ -30,7 +30,7 @@ returns c =
       c.absorb.ensures.1,
       c.bytes_in-2.ensures,
       c.bytes_in.ensures,
-      c.copy_from_slice.ensures,
+      c.copy.ensures,
       copied_padded a.key.now,
       c.first_state-h.ensures,
     )

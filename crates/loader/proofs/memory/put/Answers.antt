@@ -9,19 +9,19 @@ use Rattle.loader.proofs.memory.put.Goals as goal
 pub slice_bounds-body-end : goal.slice_bounds-body-end
 slice_bounds-body-end c =
     let body_length : length c.args.r.body ≡ 128 =
-    search (rules, c.well-formed.1.0) in
+    search (rules, c.well_formed.1.0) in
     let l = body_length in omega arith
 
 pub slice_bounds-copy_to-end : goal.slice_bounds-copy_to-end
 slice_bounds-copy_to-end c =
     let body_length : length c.args.r.body ≡ 128 =
-    search (rules, c.well-formed.1.0) in
+    search (rules, c.well_formed.1.0) in
     let l = body_length in rw length-take (omega arith)
 
 pub copy_to-requires : goal.copy_to-requires
 copy_to-requires c =
     let body_length : length c.args.r.body ≡ 128 =
-    search (rules, c.well-formed.1.0) in
+    search (rules, c.well_formed.1.0) in
     let l = body_length in rw (length-set, length-take) (omega arith)
 
 pub shape_of-room : goal.shape_of-room

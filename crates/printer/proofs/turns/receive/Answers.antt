@@ -28,7 +28,7 @@ pub returns-in_default : goal.returns-in_default
 unfolding after_byte
 returns-in_default c =
     let n = ne_eqb _ (2 ^ 64 - 1) c.if-s-eq18446744073709551615.false in
-    let o = other c.gather-g.result.answer c.in_default.keys2 in
+    let o = other c.gather-g.result.answer c.in_default.in_default-own.keys2 in
     (rw (n, ← c.gather-g.ensures, o) c.without_reply.ensures, rw (n, ← c.gather-g.ensures, o))
 
 pub returns : goal.returns
