@@ -17,9 +17,9 @@ word_at l f =
     let g : (i : ℕ) → i < 4 → get_or (take 4 (drop f l)) i 0 ≡ get_or l (f + i) 0 = λ i h. get_or-take 4 (drop f l) i 0 h ∙ get_or-drop f l i 0 in
     rw (g 0 (omega arith), g 1 (omega arith), g 2 (omega arith), g 3 (omega arith), add-zero)
 
--- zeros to the front of which s is copied
-pub filled : (s : List ℕ) (n : ℕ) → take (length s) s ++ drop (length s) (replicate n 0) ≡ padded n s
-filled s n = rw (take-length s, drop_replicate (length s) n 0)
+-- zeros to the front of which s is put
+pub filled : (s : List ℕ) (n : ℕ) → s ++ drop (length s) (drop 0 (replicate n 0)) ≡ padded n s
+filled s n = rw (drop_replicate (length s) n 0)
 
 -- what is lent as a record of 256 bytes is that record
 pub whole_front : (s : List ℕ) → length s ≡ 256 → padded 256 (take 256 s) ≡ s
