@@ -1,6 +1,5 @@
 -- The bytes stand after code and status, and what was not written is zero.
-use lib.ListN.{length, replicate}
-use Rattle.endian.proofs.Lists.{copied}
+use lib.ListN.{length}
 use mathlib.Core.Path.{◌≡◌, ◌∙◌}
 use Rattle.protocol.specs.Replies.{digest_reply}
 use borrow.Author.Rules.{rules}
@@ -11,5 +10,5 @@ unfolding digest_reply
 returns c =
     let s = c.args.digest in
     let l : length s ≡ 32 = search rules in
-    let e = c.copy_from_slice.ensures.after ∙ copied s (replicate 32 0) 32 l in
+    let e = c.copy_from_slice.ensures.after in
     c.with_status.ensures ∙ rw (e, l)

@@ -3,7 +3,6 @@ use Prim.Native.Nat.{◌<◌, ◌≤◌}
 use mathlib.Core.Path.{◌≡◌}
 use native.Mathlib.Omega.{arith}
 use borrow.Author.Tests.{le-leb, lt-leb}
-use borrow.Author.Rules.{rules}
 use Rattle.protocol.proofs.load_is_good.Goals as goal
 
 pub returns-then-size-eq0 : goal.returns-then-size-eq0
@@ -14,7 +13,7 @@ returns-then-ram_len-size c =
     let some : 1 ≤ c.args.l.size =
     omega (arith, c.if-size-eq0.false) in
     let a = c.args in
-    let over : a.ram-len < a.l.size = omega (arith, c.if-ram_len-size.true) in
+    let over : a.ram_len < a.l.size = omega (arith, c.if-ram_len-size.true) in
     rw (le-leb 1 _ (some), lt-leb _ _ over)
 
 pub returns : goal.returns
@@ -22,5 +21,5 @@ returns c =
     let some : 1 ≤ c.args.l.size =
     omega (arith, c.if-size-eq0.false) in
     let a = c.args in
-    let fits : a.l.size ≤ a.ram-len = omega (arith, c.if-ram_len-size.false) in
+    let fits : a.l.size ≤ a.ram_len = omega (arith, c.if-ram_len-size.false) in
     rw (le-leb 1 _ (some), le-leb _ _ fits)

@@ -1,6 +1,5 @@
 -- Code and status, and zeros behind them.
 use Rattle.protocol.specs.Replies.{load_reply}
-use borrow.Author.Rules.{rules}
 use Rattle.protocol.proofs.load_reply.Goals as goal
 
 pub returns : goal.returns

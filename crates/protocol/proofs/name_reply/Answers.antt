@@ -1,6 +1,5 @@
 -- The bytes stand at the front, and what was not written is zero.
 use Rattle.protocol.specs.Replies.{name_reply}
-use borrow.Author.Rules.{rules}
 use Rattle.protocol.proofs.name_reply.Goals as goal
 
 pub returns : goal.returns

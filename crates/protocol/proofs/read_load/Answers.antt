@@ -1,7 +1,6 @@
 -- Position k of a frame is place k - 1 of its body.
 use Rattle.endian.specs.Endian.{word}
 use Rattle.protocol.specs.Commands.{load_in}
-use borrow.Author.Rules.{rules}
 use Rattle.protocol.proofs.read_load.Goals as goal
 
 pub returns : goal.returns

@@ -1,6 +1,5 @@
 -- What the writer of headers gives, read as a byte.
 use Rattle.protocol.specs.Replies.{reply_header}
-use borrow.Author.Rules.{rules}
 use Rattle.protocol.proofs.reply_header.Goals as goal
 
 pub returns-in-Byte : goal.returns-in-Byte
