@@ -1,6 +1,6 @@
 -- A good frame gathered byte by byte: after its header and k bytes of its body, those k bytes are in, if it is for the firmware.
 use Prim.Native.Nat.{ℕ, zero, suc, ◌+◌, ◌-◌, ◌≤◌, ◌<◌}
-use mathlib.Core.Bool.{Bool, true, false, not, cond, and-true, and_false}
+use mathlib.Core.Bool.{Bool, true, false, not, cond, and-true, and-false}
 use mathlib.Core.List.{List, []}
 use mathlib.Core.Path.{◌≡◌, refl, sym, ap, ◌∙◌}
 use native.Mathlib.Omega.{arith}
@@ -50,7 +50,7 @@ module _ (s : State) (h id ep n : ℕ) (body : List ℕ) (free : gather_refusal 
 
   -- until the last byte a byte is taken, and the frame is not whole
   not_whole : (k : ℕ) → k < n → is_whole (partly k) ≡ false
-  not_whole k l = rw (header, ne_eqb (k + 1) (n + 1) (λ z. omega arith), and_false (eqb ep 2))
+  not_whole k l = rw (header, ne_eqb (k + 1) (n + 1) (λ z. omega arith), and-false (eqb ep 2))
 
   free_on : (k : ℕ) → k < n → gather_refusal (after k) ≡ 0
   unfolding gather_refusal
@@ -66,7 +66,7 @@ module _ (s : State) (h id ep n : ℕ) (body : List ℕ) (free : gather_refusal 
   middle : (k : ℕ) → k + 1 < n → byte_step (partly k) (get_or body k 0) ≡ taken (partly (k + 1))
   unfolding byte_step
   middle k l =
-      rw (ne_eqb (k + 1) 0 (λ z. omega arith), header, ne_eqb (k + 1) n (λ z. omega arith), and_false (not (eqb ep 2)), byte_in k (omega arith))
+      rw (ne_eqb (k + 1) 0 (λ z. omega arith), header, ne_eqb (k + 1) n (λ z. omega arith), and-false (not (eqb ep 2)), byte_in k (omega arith))
 
   last : (k : ℕ) → k + 1 ≡ n → byte_step (partly k) (get_or body k 0) ≡ taken (cond (not (eqb ep 2)) idle (partly n))
   unfolding byte_step
