@@ -80,8 +80,8 @@ abbrev pub Recorded : List ℕ → List ℕ → Type 0
 Recorded rec d = (d ≡ field_of first_digest_field rec) ⊎ ((has_second (number_in mask_field rec) ≡ true) × (d ≡ field_of second_digest_field rec))
 
 -- a program of this digest may start: type 0 allows the built-in digest only, types 2, 3 and 5 those of the record, and types 1 and 4 any
-pub record Allowed (rec built_in d : List ℕ) : Type 0 where
-  pub built_in : type_of rec ≡ 0 → d ≡ built_in
+pub record Allowed (rec built_in_digest d : List ℕ) : Type 0 where
+  pub built_in : type_of rec ≡ 0 → d ≡ built_in_digest
   pub recorded : (type_of rec ≡ 2) ⊎ ((type_of rec ≡ 3) ⊎ (type_of rec ≡ 5)) → Recorded rec d
 
 abbrev pub measured_id : List ℕ → List ℕ
