@@ -1,18 +1,15 @@
 -- The number of a call by the lengths that it is given.
-use mathlib.Core.Path.{◌≡◌, refl}
+use mathlib.Core.Path.{◌≡◌, ap, refl}
 use mathlib.Core.Bool.{Bool, true, false, cond, not, ◌||◌}
 use Prim.Native.Nat.{ℕ, ◌+◌, ◌<◌, ◌≤◌}
 use native.Mathlib.Omega.{arith}
 use lib.Dec.{ltb, eqb}
 use borrow.Author.Tests.{eq-eqb, ne_eqb, lt-ltb, le-ltb, ltb-false, eqb-false}
-use mathlib.Core.List.{List, [], ◌∷◌}
-use denote.Enum.Declared.{tag_of}
-use types.Run.{OneOf, miss}
+use mathlib.Core.List.{List, []}
 use lib.ListN.{length}
 use Rattle.endian.proofs.Cases.{impossible}
 use Rattle.rfc7693.specs.Rfc7693.{blake2s}
 use Rattle.blake2s.specs.Hash.{number_of, hash_number, hash_output}
-use Rattle.blake2s.specs.contracts.Answer.{the_type}
 use Rattle.blake2s.specs.declared.Answer.{Answer}
 use Rattle.blake2s.specs.declared.Answer.TheVariants.{Accepted, ContextRange, OutputLength, KeyLength, MessageLength}
 use Rattle.blake2s.specs.Stream.{in_range, update_number, finish_number}
@@ -47,20 +44,16 @@ pub digest_32 : (msg out : List ℕ) → length msg ≤ 4294967295 → length ou
 unfolding hash_output
 digest_32 msg out h e = rw (e, hash_accepted 0 (length msg) 32 (omega arith) (omega arith) (omega arith) h)
 
--- an answer with another tag than the first is a refusal, and the answer of the first tag is none
-pub refused_tag : (a : Answer) → OneOf (1 ∷ 2 ∷ 3 ∷ 4 ∷ []) (tag_of the_type a) → number_of a ≡ 0 → ⊥
-refused_tag Accepted t e = miss (1 ∷ 2 ∷ 3 ∷ 4 ∷ []) 0 tt t
-refused_tag ContextRange t e = omega arith
-refused_tag OutputLength t e = omega arith
-refused_tag KeyLength t e = omega arith
-refused_tag MessageLength t e = omega arith
+-- another answer than the first is a refusal, and the first is none
+pub refused_tag : (a : Answer) → (a ≡ Accepted → ⊥) → number_of a ≡ 0 → ⊥
+refused_tag Accepted h e = h refl
+refused_tag ContextRange h e = omega arith
+refused_tag OutputLength h e = omega arith
+refused_tag KeyLength h e = omega arith
+refused_tag MessageLength h e = omega arith
 
-pub accepted_tag : (a : Answer) → OneOf (0 ∷ []) (tag_of the_type a) → number_of a ≡ 0
-accepted_tag Accepted t = refl
-accepted_tag ContextRange t = absurd (omega arith)
-accepted_tag OutputLength t = absurd (omega arith)
-accepted_tag KeyLength t = absurd (omega arith)
-accepted_tag MessageLength t = absurd (omega arith)
+pub accepted_tag : (a : Answer) → a ≡ Accepted → number_of a ≡ 0
+accepted_tag a e = ap number_of e
 
 -- the lengths of a call that is accepted
 pub record Lengths (kk ll nn : ℕ) : Type 0 where

@@ -1,5 +1,5 @@
 -- What is proved about hashing besides the promises. The proof is `streaming` in proofs/Proved.antt.
-use Rattle.std.specs.Prelude.{ℕ, ◌+◌, ◌≡◌, true, List, [], ◌∷◌, ◌++◌, ◌↔◌, length, get_or}
+use Rattle.std.specs.Prelude.{ℕ, ◌≡◌, true, List, [], ◌∷◌, ◌++◌, ◌↔◌, length, get_or}
 use Rattle.blake2s.specs.Hash.{number_of, kept, hash_number, hash_output}
 use Rattle.blake2s.specs.Stream.{in_range, begin_number, begin_context, update_number, update_context, finish_number, finish_output}
 use Rattle.blake2s.specs.declared.Answer.{Answer}

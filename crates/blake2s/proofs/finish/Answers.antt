@@ -2,10 +2,8 @@
 use mathlib.Core.Path.{◌≡◌, sym, ◌∙◌}
 use mathlib.Core.Bool.{true, false}
 use lib.ListN.{length}
-use borrow.Author.Tests.{not-true, not-false}
 use Rattle.blake2s.specs.Stream.{in_range, finish_output}
 use Rattle.blake2s.proofs.Numbers.{range_size, finish_range, finish_size, finish_accepted}
-use borrow.Author.Rules.{rules}
 use Rattle.blake2s.proofs.finish.Goals as goal
 
 pub returns-then-not-in_range : goal.returns-then-not-in_range

@@ -3,10 +3,8 @@ use mathlib.Core.Path.{◌≡◌, sym, ◌∙◌}
 use mathlib.Core.Bool.{true, false}
 use native.Mathlib.Omega.{arith}
 use lib.ListN.{length}
-use borrow.Author.Tests.{not-true, not-false}
 use Rattle.blake2s.specs.Stream.{in_range, update_context}
 use Rattle.blake2s.proofs.Numbers.{update_range, update_message, update_accepted}
-use borrow.Author.Rules.{rules}
 use Rattle.blake2s.proofs.update.Goals as goal
 
 pub returns-then-not-in_range : goal.returns-then-not-in_range

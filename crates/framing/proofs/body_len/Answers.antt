@@ -2,8 +2,6 @@
 use Prim.Native.Nat.{◌/◌}
 use mathlib.Core.Path.{◌≡◌, sym, ◌∙◌}
 use native.Mathlib.Omega.{arith}
-use borrow.Author.Tests.{not-true, not-false}
-use borrow.Author.Rules.{rules}
 use Rattle.framing.proofs.Headers.{good_fields, bad_at}
 use Rattle.framing.proofs.body_len.Goals as goal
 

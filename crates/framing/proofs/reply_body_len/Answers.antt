@@ -1,5 +1,4 @@
 -- What the reader of a reply's header gives.
-use borrow.Author.Rules.{rules}
 use Rattle.framing.proofs.reply_body_len.Goals as goal
 
 pub returns-in-Good : goal.returns-in-Good

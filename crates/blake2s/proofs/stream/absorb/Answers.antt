@@ -2,7 +2,6 @@
 use native.Mathlib.Omega.{arith}
 use lib.ListN.{length-take, length-drop}
 use Rattle.endian.proofs.Lists.{drop_whole}
-use borrow.Author.Rules.{rules}
 use Rattle.blake2s.proofs.stream.absorb.Goals as goal
 
 pub compress_full-r-requires : goal.compress_full-r-requires

@@ -1,7 +1,6 @@
 -- The fields are those of the definition: the key is copied to the front of zeros (`copied-padded`).
 use Rattle.blake2s.specs.Stream.{begun}
 use Rattle.blake2s.proofs.Contexts.{copied_padded}
-use borrow.Author.Rules.{rules}
 use Rattle.blake2s.proofs.stream.begun.Goals as goal
 
 pub returns : goal.returns

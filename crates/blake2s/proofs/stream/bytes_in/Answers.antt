@@ -1,6 +1,5 @@
 -- The two arms are those of `cond`.
 use native.Mathlib.Nat.{zero-add}
-use borrow.Author.Rules.{rules}
 use Rattle.blake2s.proofs.stream.bytes_in.Goals as goal
 
 pub returns-then-keyed : goal.returns-then-keyed

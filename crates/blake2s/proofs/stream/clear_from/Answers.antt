@@ -1,10 +1,9 @@
 use mathlib.Core.Path.{◌≡◌}
-use Prim.Native.Nat.{◌≤◌, ◌-◌}
+use Prim.Native.Nat.{◌-◌}
 use native.Mathlib.Omega.{arith}
-use lib.Seq.{paste, paste-zero}
+use lib.Seq.{paste-zero}
 use Rattle.endian.specs.Lists.{zeros}
 use Rattle.blake2s.proofs.Contexts.{zeros_more, zeros_all}
-use borrow.Author.Rules.{rules}
 use Rattle.blake2s.proofs.stream.clear_from.Goals as goal
 
 pub loop-i-init : goal.loop-i-init

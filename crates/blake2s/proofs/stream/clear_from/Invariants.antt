@@ -1,11 +1,8 @@
 -- After each turn there is one more zero.
 use mathlib.Core.Path.{◌≡◌}
 use Prim.Native.Nat.{◌≤◌, ◌-◌}
-use native.Mathlib.Omega.{arith}
-use lib.Seq.{paste, paste-zero}
+use lib.Seq.{paste}
 use Rattle.endian.specs.Lists.{zeros}
-use Rattle.blake2s.proofs.Contexts.{zeros_more, zeros_all}
-use borrow.Author.Rules.{rules}
 use Rattle.blake2s.proofs.stream.clear_from.Given as goal
 
 abbrev pub invariant-loop-i : goal.invariant-loop-i

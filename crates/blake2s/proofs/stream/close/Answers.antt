@@ -1,7 +1,6 @@
 -- What waits is compressed as the final block, and the hash is the front of the state.
 use native.Mathlib.Omega.{arith}
 use Rattle.blake2s.proofs.Blocks.{blocks_one}
-use borrow.Author.Rules.{rules}
 use Rattle.blake2s.proofs.stream.close.Goals as goal
 
 pub compress_blocks-requires : goal.compress_blocks-requires

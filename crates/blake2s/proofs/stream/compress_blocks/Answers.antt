@@ -1,9 +1,8 @@
 use mathlib.Core.Path.{◌≡◌, sym, ◌∙◌}
-use Prim.Native.Nat.{◌≤◌, ◌+◌, ◌-◌, ◌*◌}
+use Prim.Native.Nat.{◌+◌, ◌-◌, ◌*◌}
 use native.Mathlib.Omega.{arith}
 use native.Mathlib.Nat.{add-zero, sub-zero}
-use lib.ListN.{length, drop, length-take, length-drop}
-use Rattle.blake2s.specs.Steps.{compressed_blocks}
+use lib.ListN.{drop, length-take, length-drop}
 use Rattle.blake2s.proofs.Blocks.{blocks_none, blocks_step, words_length}
 use borrow.Author.Rules.{rules}
 use Rattle.blake2s.proofs.stream.compress_blocks.Goals as goal

@@ -1,12 +1,8 @@
 -- The blocks that are left, on the state so far, give what all of them give on the first state.
-use mathlib.Core.Path.{◌≡◌, sym, ◌∙◌}
+use mathlib.Core.Path.{◌≡◌}
 use Prim.Native.Nat.{◌≤◌, ◌+◌, ◌-◌, ◌*◌}
-use native.Mathlib.Omega.{arith}
-use native.Mathlib.Nat.{add-zero, sub-zero}
-use lib.ListN.{length, drop, length-take, length-drop}
+use lib.ListN.{length, drop}
 use Rattle.blake2s.specs.Steps.{compressed_blocks}
-use Rattle.blake2s.proofs.Blocks.{blocks_none, blocks_step, words_length}
-use borrow.Author.Rules.{rules}
 use Rattle.blake2s.proofs.stream.compress_blocks.Given as goal
 
 abbrev pub invariant-loop-i : goal.invariant-loop-i

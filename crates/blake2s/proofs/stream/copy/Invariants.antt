@@ -1,11 +1,8 @@
 -- After i turns the first i bytes of s stand in their places.
 use mathlib.Core.Path.{◌≡◌}
 use Prim.Native.Nat.{◌≤◌, ◌-◌}
-use native.Mathlib.Omega.{arith}
-use native.Mathlib.Numerals.{add-one}
 use lib.ListN.{length}
-use lib.Seq.{paste, paste-zero, paste-suc}
-use borrow.Author.Rules.{rules}
+use lib.Seq.{paste}
 use Rattle.blake2s.proofs.stream.copy.Given as goal
 
 abbrev pub invariant-loop-i : goal.invariant-loop-i

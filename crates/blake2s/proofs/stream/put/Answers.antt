@@ -3,7 +3,6 @@ use native.Mathlib.Omega.{arith}
 use lib.ListN.{length}
 use lib.Seq.{length-paste}
 use Rattle.blake2s.proofs.Contexts.{put_padded}
-use borrow.Author.Rules.{rules}
 use Rattle.blake2s.proofs.stream.put.Goals as goal
 
 pub clear_from-requires : goal.clear_from-requires

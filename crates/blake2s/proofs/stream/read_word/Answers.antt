@@ -1,6 +1,5 @@
 -- The four bytes are those of the definition.
 use Rattle.endian.specs.Endian.{word}
-use borrow.Author.Rules.{rules}
 use Rattle.blake2s.proofs.stream.read_word.Goals as goal
 
 pub returns : goal.returns

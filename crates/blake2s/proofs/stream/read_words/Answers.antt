@@ -1,10 +1,9 @@
 use mathlib.Core.Path.{◌≡◌, refl}
-use Prim.Native.Nat.{◌≤◌, ◌-◌, ◌*◌}
+use Prim.Native.Nat.{◌*◌}
 use native.Mathlib.Omega.{arith}
 use Rattle.endian.specs.Endian.{word}
 use Rattle.rfc7693.specs.Rfc7693.{words}
-use Rattle.blake2s.proofs.Loops.{made, made_more, made_all}
-use borrow.Author.Rules.{rules}
+use Rattle.blake2s.proofs.Loops.{made_more, made_all}
 use Rattle.blake2s.proofs.stream.read_words.Goals as goal
 
 pub loop-i-init : goal.loop-i-init

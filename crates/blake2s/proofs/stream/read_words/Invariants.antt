@@ -1,11 +1,8 @@
 -- After i turns the first i words are read.
-use mathlib.Core.Path.{◌≡◌, refl}
+use mathlib.Core.Path.{◌≡◌}
 use Prim.Native.Nat.{◌≤◌, ◌-◌, ◌*◌}
-use native.Mathlib.Omega.{arith}
 use Rattle.endian.specs.Endian.{word}
-use Rattle.rfc7693.specs.Rfc7693.{words}
-use Rattle.blake2s.proofs.Loops.{made, made_more, made_all}
-use borrow.Author.Rules.{rules}
+use Rattle.blake2s.proofs.Loops.{made}
 use Rattle.blake2s.proofs.stream.read_words.Given as goal
 
 abbrev pub invariant-loop-i : goal.invariant-loop-i

@@ -6,7 +6,6 @@ use lib.ListN.{length}
 use Rattle.rfc7693.proofs.Blocks.{length_padded}
 use Rattle.blake2s.proofs.Contexts.{bytes_bound, copied_padded, after_long}
 use Rattle.blake2s.proofs.Streams.{in_one}
-use borrow.Author.Rules.{rules}
 use Rattle.blake2s.proofs.stream.whole.Goals as goal
 
 pub absorb-requires : goal.absorb-requires

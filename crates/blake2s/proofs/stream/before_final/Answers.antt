@@ -1,0 +1,12 @@
+-- Arithmetic: no bytes have no block before the final one.
+use native.Mathlib.Omega.{arith}
+use Rattle.blake2s.specs.Stream.{earlier}
+use Rattle.blake2s.proofs.stream.before_final.Goals as goal
+
+pub returns-then-n-eq0 : goal.returns-then-n-eq0
+unfolding earlier
+returns-then-n-eq0 c = omega arith
+
+pub returns-else-n-eq0 : goal.returns-else-n-eq0
+unfolding earlier
+returns-else-n-eq0 c = omega arith
