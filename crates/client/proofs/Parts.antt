@@ -9,18 +9,16 @@ use lib.Dec.{leb}
 use lib.ListN.{length, take, drop, set, replicate}
 use lib.Seq.{take_all}
 use borrow.Author.Tests.{leb-true, leb-false}
-use Rattle.endian.proofs.Lists.{copied, drop_replicate}
+use Rattle.endian.proofs.Lists.{drop_replicate}
 use Rattle.endian.specs.Lists.{padded}
 use Rattle.protocol.specs.Replies.{put_in}
 
 -- the first k of zeros overwritten by as many bytes
-pub over_zeros : (s : List ℕ) (k n : ℕ) → length s ≡ k
-    → (take (length s) s ++ drop (length s) (take k (replicate n 0))) ++ drop k (replicate n 0) ≡ padded n s
-over_zeros s k n e = rw (copied s (replicate n 0) k e, drop_replicate, e)
+pub over_zeros : (s : List ℕ) (k n : ℕ) → length s ≡ k → s ++ drop k (replicate n 0) ≡ padded n s
+over_zeros s k n e = rw (drop_replicate, e)
 
 -- and after a command byte
-pub after_command : (c : ℕ) (s : List ℕ) (k : ℕ) → length s ≡ k
-    → c ∷ ((take (length s) s ++ drop (length s) (take k (replicate 127 0))) ++ drop k (replicate 127 0)) ≡ padded 128 (c ∷ s)
+pub after_command : (c : ℕ) (s : List ℕ) (k : ℕ) → length s ≡ k → c ∷ (s ++ drop k (replicate 127 0)) ≡ padded 128 (c ∷ s)
 after_command c s k e = ap (λ (x : List ℕ). c ∷ x) (over_zeros s k 127 e) ∙ rw (suc-sub-suc 127 (length s))
 
 -- as many bytes as there are, of 127
@@ -33,7 +31,7 @@ first_127 k l e = go (leb 127 (length l)) refl
 
 -- a command at the front of a room, its header first
 pub put_command : (room body : List ℕ) (h : ℕ) → 129 ≤ length room → length body ≡ 128
-    → take 1 (set room 0 h) ++ ((take (length body) body ++ drop (length body) (take 128 (drop 1 (set room 0 h)))) ++ drop 128 (drop 1 (set room 0 h))) ≡ put_in room (h ∷ body)
+    → take 1 (set room 0 h) ++ (body ++ drop 128 (drop 1 (set room 0 h))) ≡ put_in room (h ∷ body)
 unfolding put_in
 put_command [] body h l e = absurd (omega arith)
-put_command (x ∷ xs) body h l e = rw (copied body xs 128 e, e)
+put_command (x ∷ xs) body h l e = rw e

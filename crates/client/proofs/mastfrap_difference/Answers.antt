@@ -1,5 +1,4 @@
 -- The difference by its number.
-use borrow.Author.Rules.{rules}
 use Rattle.client.proofs.mastfrap_difference.Goals as goal
 
 pub returns : goal.returns

@@ -1,5 +1,4 @@
 -- The answer by its number.
-use borrow.Author.Rules.{rules}
 use Rattle.client.proofs.mastfrap_make_frame.Goals as goal
 
 pub returns : goal.returns

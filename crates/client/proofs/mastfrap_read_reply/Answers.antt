@@ -4,7 +4,6 @@ use mathlib.Core.Path.{◌≡◌, sym, ◌∙◌}
 use mathlib.Core.List.{List}
 use borrow.Author.Tests.{ne_eqb}
 use Rattle.client.specs.Replies.{Taking, taking, taking_as, taking_into}
-use borrow.Author.Rules.{rules}
 use Rattle.client.proofs.mastfrap_read_reply.Goals as goal
 
 module _ (n id k : ℕ) (r : List ℕ) (status : ℕ) (digest : List ℕ) (t : Taking) (e : t ≡ taking n id k r) (j : ℕ) (q : j ≡ t.number) where

@@ -6,7 +6,6 @@ use lib.ListN.{length, take, drop, length-take, length-drop}
 use Rattle.protocol.specs.Commands.{place_of}
 use Rattle.client.specs.Frames.{block_body}
 use Rattle.client.proofs.Parts.{after_command, first_127}
-use borrow.Author.Rules.{rules}
 use Rattle.client.proofs.frames.block_body.Goals as goal
 
 pub returns : goal.returns

@@ -1,6 +1,5 @@
 -- The load is frame 0, and block k - 1 frame k.
 use borrow.Author.Tests.{ne_eqb}
-use borrow.Author.Rules.{rules}
 use Rattle.client.proofs.frames.body.Goals as goal
 
 pub returns-then-k-eq0 : goal.returns-then-k-eq0

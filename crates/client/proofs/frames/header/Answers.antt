@@ -1,6 +1,5 @@
 -- What the writer of headers gives, read as a byte.
 use Rattle.client.specs.Frames.{command_header}
-use borrow.Author.Rules.{rules}
 use Rattle.client.proofs.frames.header.Goals as goal
 
 pub returns-in-Byte : goal.returns-in-Byte

@@ -1,13 +1,8 @@
 -- The bytes before place i are zero, so all are zero exactly when those from it on are.
-use Prim.Native.Nat.{ℕ, ◌≤◌, ◌-◌}
-use mathlib.Core.Path.{◌≡◌, refl, sym, ap, ◌∙◌}
-use native.Mathlib.Omega.{arith}
-use native.Mathlib.Numerals.{add-one}
+use Prim.Native.Nat.{◌≤◌, ◌-◌}
+use mathlib.Core.Path.{◌≡◌}
 use lib.ListN.{length, drop}
-use lib.Seq.{drop-length}
 use Rattle.client.specs.Replies.{all_zero}
-use Rattle.client.proofs.Zeros.{zero_more, not_zero}
-use borrow.Author.Rules.{rules}
 use Rattle.client.proofs.replies.all_zero.Given as goal
 
 abbrev pub invariant-loop-i : goal.invariant-loop-i

@@ -8,7 +8,6 @@ use Rattle.endian.proofs.Lists.{drop_whole}
 use Rattle.client.specs.Replies.{all_zero, filler_in, difference_in}
 use Rattle.client.proofs.Expected.{no_header}
 use Rattle.client.specs.declared.Difference.TheVariants.{Nothing, Filler}
-use borrow.Author.Rules.{rules}
 use Rattle.client.proofs.replies.difference_in.Goals as goal
 
 pub returns-then-reply-eq0 : goal.returns-then-reply-eq0
@@ -42,6 +41,8 @@ returns-then-not-status_is c =
 pub returns-then-not-all_zero : goal.returns-then-not-all_zero
 unfolding difference_in
 returns-then-not-all_zero c =
+    let filler : all_zero (filler_in c.args.x c.args.reply.now) ≡ c.all_zero.result =
+    sym (c.all_zero.ensures ∙ ap all_zero (drop_whole (3 + c.args.x.digest) c.args.reply.now ∙ sym (drop-drop c.args.x.digest 3 c.args.reply.now))) in
     let left : difference_in c.args.x c.args.id c.args.reply.now ≡ cond (not c.all_zero.result) Filler Nothing =
     rw (
       ← c.header_is.ensures,
@@ -57,6 +58,8 @@ returns-then-not-all_zero c =
 pub returns : goal.returns
 unfolding difference_in
 returns c =
+    let filler : all_zero (filler_in c.args.x c.args.reply.now) ≡ c.all_zero.result =
+    sym (c.all_zero.ensures ∙ ap all_zero (drop_whole (3 + c.args.x.digest) c.args.reply.now ∙ sym (drop-drop c.args.x.digest 3 c.args.reply.now))) in
     let left : difference_in c.args.x c.args.id c.args.reply.now ≡ cond (not c.all_zero.result) Filler Nothing =
     rw (
       ← c.header_is.ensures,

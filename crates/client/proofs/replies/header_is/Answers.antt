@@ -1,6 +1,5 @@
 -- Each field is compared.
 use borrow.Author.Tests.{eq-eqb, ne_eqb}
-use borrow.Author.Rules.{rules}
 use Rattle.client.proofs.replies.header_is.Goals as goal
 
 pub returns-in-Bad : goal.returns-in-Bad

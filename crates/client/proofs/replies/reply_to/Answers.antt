@@ -1,6 +1,5 @@
 -- The kind of reply by the number of the frame.
 use borrow.Author.Tests.{ne_eqb}
-use borrow.Author.Rules.{rules}
 use Rattle.client.proofs.replies.reply_to.Goals as goal
 
 pub returns-then-k-eq0 : goal.returns-then-k-eq0

@@ -1,5 +1,4 @@
 -- The status that the header has is compared.
-use borrow.Author.Rules.{rules}
 use Rattle.client.proofs.replies.status_is.Goals as goal
 
 pub returns-in-Bad : goal.returns-in-Bad
