@@ -19,7 +19,7 @@ returns-in-1 c =
 pub returns-in-0 : goal.returns-in-0
 returns-in-0 c =
     let x = c.args.command in
-    not_loading x c.args.len (other (0 ∷ 2 ∷ 4 ∷ []) 5 x (miss (0 ∷ 2 ∷ 4 ∷ []) 5 tt) c.in-0.in-0-own.keys3)
+    not_loading x c.args.len (other (0 ∷ 2 ∷ 4 ∷ []) 5 x (miss (0 ∷ 2 ∷ 4 ∷ []) 5 tt) c.in-0-own.keys3)
 
 pub returns-in-0-2 : goal.returns-in-0-2
-returns-in-0-2 c = not_loading c.args.command c.args.len c.in-0.rest.0.0.1
+returns-in-0-2 c = not_loading c.args.command c.args.len c.in-0-own.rest.0.0.1

@@ -29,10 +29,10 @@ returns-in-5 c = simp c.in-5.is
 pub returns-in-0 : goal.returns-in-0
 returns-in-0 c =
     let x = c.args.command in
-    let o = c.in-0.in-0-own.keys5 in
+    let o = c.in-0-own.keys5 in
     not_waiting x c.args.len (other (0 ∷ 2 ∷ 4 ∷ []) 1 x (miss (0 ∷ 2 ∷ 4 ∷ []) 1 tt) o) (other (0 ∷ 2 ∷ 4 ∷ []) 8 x (miss (0 ∷ 2 ∷ 4 ∷ []) 8 tt) o) (other (0 ∷ 2 ∷ 4 ∷ []) 3 x (miss (0 ∷ 2 ∷ 4 ∷ []) 3 tt) o)
 
 pub returns-in-0-2 : goal.returns-in-0-2
 returns-in-0-2 c =
-    let r = c.in-0.rest.0.0 in
+    let r = c.in-0-own.rest.0.0 in
     not_waiting c.args.command c.args.len r.0.0.1 r.0.1 r.1

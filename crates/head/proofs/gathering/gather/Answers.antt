@@ -14,7 +14,7 @@ take-requires c =
     λ x. λ e. ap (λ (z : Admission). admission_number z) (sym e) ∙ c.admit_gather.ensures in
     let s = c.args.s in
     let a = gather_admitted s (sym (admission _ c.in-Admitted.is)) in
-    ((range_facts s a.range).incoming, a.unfinished)
+    record { incoming_value = (range_facts s a.range).incoming; incoming_value_2 = a.unfinished }
 
 pub returns-in-Refused : goal.returns-in-Refused
 returns-in-Refused c =

@@ -7,7 +7,7 @@ use Rattle.head.proofs.gathering.take.Goals as goal
 
 pub returns-then-i-eq0 : goal.returns-then-i-eq0
 unfolding byte_step
-returns-then-i-eq0 c = rw (eq-eqb _ _ c.if-i-eq0.true) (goal.at.returns-then-i-eq0 c).After-open.«open».ensures
+returns-then-i-eq0 c = rw (eq-eqb _ _ c.if-i-eq0.true) c.«open».ensures
 
 pub in_body-requires : goal.in_body-requires
 in_body-requires c =
@@ -16,7 +16,7 @@ in_body-requires c =
 
 pub returns-in-Good : goal.returns-in-Good
 unfolding byte_step
-returns-in-Good c = rw (ne_eqb _ _ c.if-i-eq0.false, ← c.read_header.ensures, c.in-Good.is) c.in_Body.ensures
+returns-in-Good c = rw (ne_eqb _ _ c.if-i-eq0.false, ← c.read_header.ensures, c.in-Good.is) c.in_body.ensures
 
 pub returns-in-Bad : goal.returns-in-Bad
 unfolding byte_step
