@@ -1,5 +1,4 @@
 pub mod Ranges
-pub mod Actions
 pub mod Admitted
 pub mod Ways
 pub mod Frames
