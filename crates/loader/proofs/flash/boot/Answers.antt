@@ -3,49 +3,39 @@ use Prim.Native.Nat.{◌≤◌}
 use lib.ListN.{length}
 use mathlib.Core.Path.{◌≡◌}
 use native.Mathlib.Omega.{arith}
-use borrow.Author.Tests.{not-true, not-false}
 use Rattle.loader.proofs.Slots.{program_fits, does_not_fit, booted}
-use borrow.Author.Rules.{rules}
 use Rattle.loader.proofs.flash.boot.Goals as goal
 
 pub returns-then-not-fits : goal.returns-then-not-fits
 returns-then-not-fits c =
     let a = c.args in
-    does_not_fit _ a.size a.c a.ram.now a.uds.now _ c.fits2.result c.front-program.ensures c.fits2.ensures
-    (c.if-not-fits.true) c.end.result c.end.ensures
+    does_not_fit _ a.size a.c a.ram.now a.uds.now _ c.fits.result c.front-program.ensures c.fits.ensures c.if-not-fits.true c.end.result
+    c.end.ensures
 
 pub measure-digest-requires : goal.measure-digest-requires
 measure-digest-requires c =
-    let fitted : (length c.front-program.result.now ≡ c.args.size)
-    × (c.args.size ≤ length c.args.ram.now) =
     let a = c.args in
-    program_fits _ a.size a.c a.ram.now a.uds.now _ c.fits2.result c.front-program.ensures c.fits2.ensures
-    (c.if-not-fits.false) in
-    let f = fitted in let h = c.requires.0 in omega arith
+    let fitted : (length c.front-program.result.now ≡ a.size) × (a.size ≤ length a.ram.now) =
+    program_fits _ a.size a.c a.ram.now a.uds.now _ c.fits.result c.front-program.ensures c.fits.ensures c.if-not-fits.false in
+    omega arith
 
 pub copy_to-requires : goal.copy_to-requires
 copy_to-requires c =
-    let fitted : (length c.front-program.result.now ≡ c.args.size)
-    × (c.args.size ≤ length c.args.ram.now) =
     let a = c.args in
-    program_fits _ a.size a.c a.ram.now a.uds.now _ c.fits2.result c.front-program.ensures c.fits2.ensures
-    (c.if-not-fits.false) in
-    let f = fitted in omega arith
+    let fitted : (length c.front-program.result.now ≡ a.size) × (a.size ≤ length a.ram.now) =
+    program_fits _ a.size a.c a.ram.now a.uds.now _ c.fits.result c.front-program.ensures c.fits.ensures c.if-not-fits.false in
+    omega arith
 
 pub overflow_cast-size : goal.overflow_cast-size
 overflow_cast-size c =
-    let fitted : (length c.front-program.result.now ≡ c.args.size)
-    × (c.args.size ≤ length c.args.ram.now) =
     let a = c.args in
-    program_fits _ a.size a.c a.ram.now a.uds.now _ c.fits2.result c.front-program.ensures c.fits2.ensures
-    (c.if-not-fits.false) in
-    let f = fitted in
-    let h = c.requires.0 in
+    let fitted : (length c.front-program.result.now ≡ a.size) × (a.size ≤ length a.ram.now) =
+    program_fits _ a.size a.c a.ram.now a.uds.now _ c.fits.result c.front-program.ensures c.fits.ensures c.if-not-fits.false in
     record { fits = omega arith }
 
 pub returns : goal.returns
 returns c =
     let a = c.args in
-    booted _ a.size a.c a.ram.now a.uds.now _ c.fits2.result c.front-program.ensures c.fits2.ensures
-    (c.if-not-fits.false) c.measure-digest.result c.of_size-p.result c.start_or_stop.result _ _ c.measure-digest.ensures
-    c.copy_to.ensures c.of_size-p.ensures c.start_or_stop.ensures
+    booted _ a.size a.c a.ram.now a.uds.now _ c.fits.result c.front-program.ensures c.fits.ensures c.if-not-fits.false
+    c.measure-digest.result c.of_size-p.result c.start_or_stop.result _ _ c.measure-digest.ensures c.copy_to.ensures c.of_size-p.ensures
+    c.start_or_stop.ensures

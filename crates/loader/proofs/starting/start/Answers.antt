@@ -2,13 +2,11 @@
 use lib.ListN.{replicate}
 use Prim.Native.Nat.{ℕ}
 use mathlib.Core.Path.{ap, ◌∙◌}
-use borrow.Author.Rules.{rules}
 use Rattle.head.specs.Start.{starting}
 use Rattle.loader.proofs.starting.start.Goals as goal
 
 pub returns : goal.returns
 unfolding starting
 returns c =
-    let z = b.before.before.before in
-    let e = c.clear.ensures ∙ ap (λ (n : ℕ). replicate n 0) z.requires in
+    let e = c.clear.ensures ∙ ap (λ (n : ℕ). replicate n 0) c.requires in
     λ ram. rw (c.ended.ensures, c.derive-cdi.ensures, c.secret_bytes-secret.ensures, e)
