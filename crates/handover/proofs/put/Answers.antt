@@ -1,10 +1,9 @@
 -- The copy leaves what it copied.
 use Prim.Native.Nat.{◌+◌, ◌-◌}
-use mathlib.Core.Path.{◌≡◌, refl, sym}
+use mathlib.Core.Path.{◌≡◌, sym}
 use mathlib.Core.List.{append_assoc}
 use native.Mathlib.Omega.{arith}
 use lib.ListN.{length, take, drop}
-use Rattle.endian.proofs.Lists.{copied}
 use borrow.Author.Rules.{rules}
 use Rattle.handover.proofs.put.Goals as goal
 
@@ -15,4 +14,4 @@ returns c =
     let s = a.bytes.now in
     let o = a.out.now in
     let n : f + length s - f ≡ length s = omega arith in
-    rw (c.copy_from_slice.ensures.after, n, copied s (drop f o) (length s) refl) (sym (append_assoc (take f o) s (drop (length s) (drop f o))))
+    rw (c.copy_from_slice.ensures.after, n) (sym (append_assoc (take f o) s (drop (length s) (drop f o))))

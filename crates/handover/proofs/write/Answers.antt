@@ -18,5 +18,5 @@ returns c =
     let sizes : (length c.args.first ≡ 32) × (length c.args.measured_id ≡ 32) × (length c.args.second ≡ 32) =
     (search rules, search rules, search rules) in
     let a = c.args in
-    stored a.next-type a.mask a.first a.measured_id a.second a.next-data.now (sizes).0 (sizes).1 (sizes).2 a.out.now _ _ _ _ _ _ _ c.requires.0 c.requires.1 c.data_from.ensures
+    stored a.next_type a.mask a.first a.measured_id a.second a.next_data.now (sizes).0 (sizes).1 (sizes).2 a.out.now _ _ _ _ _ _ _ c.requires.0 c.requires.1 c.data_from.ensures
     c.put_number.ensures c.put_number-2.ensures c.put.ensures c.put-2.ensures c.put_second.ensures c.put-3.ensures
