@@ -21,12 +21,16 @@ open-requires c =
     let three : length c.args.numbers.now ≡ 3 =
     search rules in
     let a = c.args in
-    ((three, full), (held a.numbers.now a.bytes.now c.refusal-refused.result c.refusal-refused.ensures c.if-refused-ne0.false, c.if-bytes-eq0.true))
+    record {
+      numbers_len = (three, full);
+      bytes_value = held a.numbers.now a.bytes.now c.refusal-refused.result c.refusal-refused.ensures c.if-refused-ne0.false;
+      bytes_value_2 = c.if-bytes-eq0.true;
+    }
 
 pub returns-then-bytes-eq0 : goal.returns-then-bytes-eq0
 returns-then-bytes-eq0 c =
     let a = c.args in
-    (goal.at.returns-then-bytes-eq0 c).After-open.«open».ensures ∙ admitted_as a.numbers.now a.bytes.now c.refusal-refused.result c.refusal-refused.ensures c.if-refused-ne0.false a.byte
+    c.«open».ensures ∙ admitted_as a.numbers.now a.bytes.now c.refusal-refused.result c.refusal-refused.ensures c.if-refused-ne0.false a.byte
 
 pub take-requires : goal.take-requires
 take-requires c =
@@ -35,7 +39,7 @@ take-requires c =
     let a = c.args in
     let h = held a.numbers.now a.bytes.now c.refusal-refused.result c.refusal-refused.ensures c.if-refused-ne0.false in
     let f = in_frame a.numbers.now a.bytes.now c.refusal-refused.result c.refusal-refused.ensures c.if-refused-ne0.false c.if-bytes-eq0.false in
-    (full, (h, (c.body_len-len.ensures, (f.0, rw c.body_len-len.ensures f.1))))
+    record { bytes_len = full; bytes_value = h; len_value = c.body_len-len.ensures; bound = (f.0, rw c.body_len-len.ensures f.1) }
 
 pub returns : goal.returns
 returns c =

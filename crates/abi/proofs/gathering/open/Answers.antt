@@ -15,12 +15,12 @@ pub returns-then-is_good : goal.returns-then-is_good
 returns-then-is_good c =
     let g = c.is_good in
     let p = c.requires in
-    opens c.args.numbers.now c.args.bytes.now c.args.byte p.0.0 p.0.1 p.1.0 (sym g.ensures ∙ c.if-is_good.true) p.1.1
+    opens c.args.numbers.now c.args.bytes.now c.args.byte p.numbers_len.0 p.numbers_len.1 p.bytes_value (sym g.ensures ∙ c.if-is_good.true) p.bytes_value_2
 
 pub returns : goal.returns
 returns c =
     let g = c.is_good in
     let p = c.requires in
     let s = c.stop in
-    at _ _ _ _ _ _ s.ensures.0 s.ensures.1.0 s.ensures.1.1
-    ∙ stops c.args.numbers.now c.args.bytes.now c.args.byte p.0.0 p.0.1 p.1.0 (sym g.ensures ∙ c.if-is_good.false) p.1.1
+    at _ _ _ _ _ _ s.ensures.value s.ensures.numbers_after s.ensures.bytes_after
+    ∙ stops c.args.numbers.now c.args.bytes.now c.args.byte p.numbers_len.0 p.numbers_len.1 p.bytes_value (sym g.ensures ∙ c.if-is_good.false) p.bytes_value_2

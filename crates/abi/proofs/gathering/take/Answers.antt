@@ -52,7 +52,7 @@ returns-then-len-got-2 c =
     c.args.len
     c.endpoint.ensures
     c.requires.len_value
-    c.clear_body.new.0
+    c.clear_body.new.bytes
     c.clear_body.ensures
     c.if-endpoint-eq2.false
     c.if-len-got-2.true

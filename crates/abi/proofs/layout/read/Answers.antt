@@ -8,9 +8,6 @@ use Rattle.abi.specs.Layout.{state_in}
 use Rattle.abi.proofs.RoundTrip.{low}
 use Rattle.abi.proofs.layout.read.Goals as goal
 
-pub overflow_cast-result : goal.overflow_cast-result
-overflow_cast-result c = omega (arith, c.shared_slice_known-6-1.given 0)
-
 pub returns : goal.returns
 unfolding state_in
 returns c =

@@ -8,20 +8,18 @@ use Rattle.abi.proofs.layout.write_bytes.Goals as goal
 
 pub returns : goal.returns
 returns c =
-    let uss : length c.args.s.progress.uss ≡ 32 =
-    search (rules, c.well_formed.0) in
-    let udi : length c.args.s.config.udi ≡ 8 =
-    search (rules, c.well_formed.0) in
-    let measured : length c.args.s.config.measured_id ≡ 32 =
-    search (rules, c.well_formed.0) in
-    let digests : (length c.args.s.config.digests.first ≡ 32) × (length c.args.s.config.digests.second ≡ 32) =
-    let d = c.well_formed.0.1.1.1.0.1.1.1.1.1.0 in (search (rules, d), search (rules, d)) in
-    let body : length c.args.s.incoming.body ≡ 128 =
-    search (rules, c.well_formed.0) in
+    let w = c.well_formed in
     let sized : Sized c.args.s =
-    record { body = body; first = (digests).0; measured = measured; udi = udi; uss = uss; second = (digests).1 } in
-    packed c.args.s c.args.bytes.now c.small_of-small.result c.put_body.new.0 c.put_small.new.0 c.put_part.new.0 c.put_part-2.new.0
-    c.put_udi.new.0 c.put_part-3.new.0 c.put_part-4.new.0 c.requires (sized) c.small_of-small.ensures c.put_body.ensures c.put_small.ensures
+    record {
+      body = search (rules, w);
+      first = search (rules, w);
+      measured = search (rules, w);
+      udi = search (rules, w);
+      uss = search (rules, w);
+      second = search (rules, w);
+    } in
+    packed c.args.s c.args.bytes.now c.small_of-small.result c.put_body.new.bytes c.put_small.new.bytes c.put_part.new.bytes c.put_part-2.new.bytes
+    c.put_udi.new.bytes c.put_part-3.new.bytes c.put_part-4.new.bytes c.requires sized c.small_of-small.ensures c.put_body.ensures c.put_small.ensures
     c.put_part.ensures
     c.put_part-2.ensures
     c.put_udi.ensures
