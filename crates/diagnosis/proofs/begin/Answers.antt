@@ -24,7 +24,7 @@ returns-in-Slot0 c =
     → by_source (source_at k) (record_of c.read-r.result) c.args.ram_len ≡ begun c.args.«record».now c.args.ram_len =
     λ k. λ e. let a = c.args in
     let n = c.if-record-ne256.false in
-    begun_as a.«record».now a.ram-len c.read-r.result k n (sym c.length_ok.ensures ∙ c.if-not-length_ok.false)
+    begun_as a.«record».now a.ram_len c.read-r.result k n (sym c.length_ok.ensures ∙ c.if-not-length_ok.false)
     (c.read-r.ensures ∙ ap record_at (c.front.ensures ∙ whole_front a.«record».now n)) (ap source_at (sym e) ∙ c.source.ensures) in
     c.closed-in-Slot0.ensures ∙ from _ c.in-Slot0.is
 
@@ -34,7 +34,7 @@ returns-in-Slot1 c =
     → by_source (source_at k) (record_of c.read-r.result) c.args.ram_len ≡ begun c.args.«record».now c.args.ram_len =
     λ k. λ e. let a = c.args in
     let n = c.if-record-ne256.false in
-    begun_as a.«record».now a.ram-len c.read-r.result k n (sym c.length_ok.ensures ∙ c.if-not-length_ok.false)
+    begun_as a.«record».now a.ram_len c.read-r.result k n (sym c.length_ok.ensures ∙ c.if-not-length_ok.false)
     (c.read-r.ensures ∙ ap record_at (c.front.ensures ∙ whole_front a.«record».now n)) (ap source_at (sym e) ∙ c.source.ensures) in
     c.closed-in-Slot1.ensures ∙ from _ c.in-Slot1.is
 
@@ -44,7 +44,7 @@ returns-in-Client c =
     → by_source (source_at k) (record_of c.read-r.result) c.args.ram_len ≡ begun c.args.«record».now c.args.ram_len =
     λ k. λ e. let a = c.args in
     let n = c.if-record-ne256.false in
-    begun_as a.«record».now a.ram-len c.read-r.result k n (sym c.length_ok.ensures ∙ c.if-not-length_ok.false)
+    begun_as a.«record».now a.ram_len c.read-r.result k n (sym c.length_ok.ensures ∙ c.if-not-length_ok.false)
     (c.read-r.ensures ∙ ap record_at (c.front.ensures ∙ whole_front a.«record».now n)) (ap source_at (sym e) ∙ c.source.ensures) in
     c.opened.ensures ∙ from _ c.in-Client.is
 
@@ -54,6 +54,6 @@ returns-in-Unknown c =
     → by_source (source_at k) (record_of c.read-r.result) c.args.ram_len ≡ begun c.args.«record».now c.args.ram_len =
     λ k. λ e. let a = c.args in
     let n = c.if-record-ne256.false in
-    begun_as a.«record».now a.ram-len c.read-r.result k n (sym c.length_ok.ensures ∙ c.if-not-length_ok.false)
+    begun_as a.«record».now a.ram_len c.read-r.result k n (sym c.length_ok.ensures ∙ c.if-not-length_ok.false)
     (c.read-r.ensures ∙ ap record_at (c.front.ensures ∙ whole_front a.«record».now n)) (ap source_at (sym e) ∙ c.source.ensures) in
     c.closed-in-Unknown.ensures ∙ from _ c.in-Unknown.is

@@ -13,7 +13,7 @@ pub hear_all-requires : goal.hear_all-requires
 hear_all-requires c =
     let a = c.args in
     let n = length a.bytes.now in
-    subst (λ (w : Monitor). has_room w n ≡ true) (sym c.begin-w.ensures) (room_first a.«record».now a.ram-len n (omega arith))
+    subst (λ (w : Monitor). has_room w n ≡ true) (sym c.begin-w.ensures) (room_first a.«record».now a.ram_len n (omega arith))
 
 pub returns : goal.returns
 unfolding diagnosis

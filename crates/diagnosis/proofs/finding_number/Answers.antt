@@ -9,13 +9,13 @@ pub returns-in-Stopped : goal.returns-in-Stopped
 returns-in-Stopped c = λ i. rw (c.stop_number.ensures, c.in-Stopped.is)
 
 pub returns-in-Unfinished : goal.returns-in-Unfinished
-returns-in-Unfinished c = rw c.in-Unfinished.is
+returns-in-Unfinished c = λ i. rw c.in-Unfinished.is
 
 pub returns-in-Waiting : goal.returns-in-Waiting
-returns-in-Waiting c = rw c.in-Waiting.is
+returns-in-Waiting c = λ i. rw c.in-Waiting.is
 
 pub returns-in-Missing : goal.returns-in-Missing
-returns-in-Missing c = rw c.in-Missing.is
+returns-in-Missing c = λ i. rw c.in-Missing.is
 
 pub returns-in-Started : goal.returns-in-Started
-returns-in-Started c = rw c.in-Started.is
+returns-in-Started c = λ i. rw c.in-Started.is

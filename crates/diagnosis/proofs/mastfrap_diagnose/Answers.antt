@@ -24,10 +24,10 @@ pub returns-then-is_refused : goal.returns-then-is_refused
 returns-then-is_refused c =
     let a = c.args in
     rw (c.finding_number-number.ensures c.diagnose-d.result.position.byte)
-    (refused_as a.«record».now a.ram-len a.bytes.now a.counts.now a.digest.now _ c.diagnose-d.ensures (sym c.is_refused.ensures ∙ c.if-is_refused.true))
+    (refused_as a.«record».now a.ram_len a.bytes.now a.counts.now a.digest.now _ c.diagnose-d.ensures (sym c.is_refused.ensures ∙ c.if-is_refused.true))
 
 pub returns : goal.returns
 returns c =
     let a = c.args in
     rw (c.finding_number-number.ensures c.diagnose-d.result.position.byte, c.missing_in.ensures)
-    (told_as a.«record».now a.ram-len a.bytes.now a.counts.now a.digest.now _ c.diagnose-d.ensures (sym c.is_refused.ensures ∙ c.if-is_refused.false))
+    (told_as a.«record».now a.ram_len a.bytes.now a.counts.now a.digest.now _ c.diagnose-d.ensures (sym c.is_refused.ensures ∙ c.if-is_refused.false))

@@ -7,14 +7,8 @@ use Rattle.protocol.specs.Commands.{count_in}
 use borrow.Author.Rules.{rules}
 use Rattle.diagnosis.proofs.frames.carried.Goals as goal
 
-pub slice_bounds-update-end : goal.slice_bounds-update-end
-slice_bounds-update-end c =
-    let l = body_length (call (goal.at.slice_bounds-update-end c).After-body-1) in
-    let e = c.count-in.ensures in
-    omega arith
-
 pub returns : goal.returns
 returns c =
-    let p = (call (goal.at.returns c).After-body-1).args.s.progress in
+    let p = c.args.s.progress in
     let k : count_in p.size p.block + 1 - 1 ≡ count_in p.size p.block = omega arith in
-    c.update-next.ensures.1 ∙ rw (c.count-in.ensures, k)
+    c.update-next.ensures.1 ∙ rw (c.count_in-n.ensures, k)

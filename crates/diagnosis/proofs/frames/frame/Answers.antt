@@ -13,7 +13,10 @@ block-requires c =
     λ k. λ e. ap request_for (sym e) ∙ c.decide.ensures in
     let s = c.args.w.head in
     let e = sym (asked _ c.in-TakeBlock.is) in
-    (block_loading s.progress.phase _ _ s.progress s.config.ram_len e c.requires.ram_len_value, c.requires.ram_len_bound)
+    record {
+      ram_len_value = block_loading s.progress.phase _ _ s.progress s.config.ram_len e c.requires.ram_len_value;
+      ram_len_bound = c.requires.ram_len_bound;
+    }
 
 pub returns-in-AnswerName : goal.returns-in-AnswerName
 returns-in-AnswerName c =

@@ -19,7 +19,8 @@ returns-then-not-is_open c = let o = c.is_open in rw (← o.ensures, c.if-not-is
 pub frame-requires : goal.frame-requires
 frame-requires c =
     let z = c.args in
-    rw c.moved-in-Whole.ensures (whole_ready z.w.head z.b c.gather-g.result c.gather-g.ensures c.in-Whole.is)
+    let r = whole_ready z.w.head z.b c.gather-g.result c.gather-g.ensures c.in-Whole.is in
+    rw c.moved-in-Whole.ensures (record { ram_len_value = r.0; ram_len_bound = r.1 })
 
 pub returns-in-Refused : goal.returns-in-Refused
 returns-in-Refused c =
