@@ -77,8 +77,7 @@ fn give(
 }
 
 // begin.
-#[unsafe(no_mangle)]
-pub extern "C" fn mastfrap_begin<'a>(
+pub fn mastfrap_begin<'a>(
     numbers: &mut [u32; 3],
     bytes: &mut [u8; 268],
     record: &[u8],
@@ -113,8 +112,7 @@ pub extern "C" fn mastfrap_begin<'a>(
 }
 
 // gather, in place: a byte changes the few bytes that it changes.
-#[unsafe(no_mangle)]
-pub extern "C" fn mastfrap_gather(numbers: &mut [u32; 3], bytes: &mut [u8; 268], byte: u8) -> u32
+pub fn mastfrap_gather(numbers: &mut [u32; 3], bytes: &mut [u8; 268], byte: u8) -> u32
     ensures { gather_told result (lent numbers.new bytes.new) ≡ gather_call (lent numbers.old bytes.old) byte }
 {
     let len = framing::body_len(bytes[128]);
@@ -129,8 +127,7 @@ pub extern "C" fn mastfrap_gather(numbers: &mut [u32; 3], bytes: &mut [u8; 268],
 }
 
 // act.
-#[unsafe(no_mangle)]
-pub extern "C" fn mastfrap_act(
+pub fn mastfrap_act(
     numbers: &mut [u32; 3],
     bytes: &mut [u8; 268],
     room: &mut [u8],
@@ -163,8 +160,7 @@ pub extern "C" fn mastfrap_act(
 }
 
 // reset.
-#[unsafe(no_mangle)]
-pub extern "C" fn mastfrap_reset(
+pub fn mastfrap_reset(
     cdi: &mut [u8],
     seed: &[u8],
     next_type: u32,

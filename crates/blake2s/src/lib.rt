@@ -158,8 +158,7 @@ pub fn answer_number(a: Answer) -> u32
 }
 
 // hash, for C: include/mastfrap.h.
-#[unsafe(no_mangle)]
-pub extern "C" fn mastfrap_blake2s(key: &[u8], msg: &[u8], out: &mut [u8]) -> u32
+pub fn mastfrap_blake2s(key: &[u8], msg: &[u8], out: &mut [u8]) -> u32
     ensures { (result ≡ hash_number (length key.now) (length msg.now) (length out.old)) × (out.new ≡ hash_output key.now msg.now out.old) }
 {
     let a = hash(key, msg, out);

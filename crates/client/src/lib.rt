@@ -153,8 +153,7 @@ pub fn reply_difference(len: usize, id: u8, k: u32, reply: &[u8]) -> Difference
 }
 
 // make_frame, for C: include/mastfrap.h. Any `used` but 0 is a yes: of what another language passes as a bool, bit 0 alone would be read.
-#[unsafe(no_mangle)]
-pub extern "C" fn mastfrap_make_frame(
+pub fn mastfrap_make_frame(
     program: &[u8],
     id: u8,
     used: u8,
@@ -172,8 +171,7 @@ pub extern "C" fn mastfrap_make_frame(
 }
 
 // read_reply, for C. Status and digest are written where the reply is taken; the digest is zeros but for the last reply.
-#[unsafe(no_mangle)]
-pub extern "C" fn mastfrap_read_reply(
+pub fn mastfrap_read_reply(
     len: usize,
     id: u8,
     k: u32,
@@ -195,8 +193,7 @@ pub extern "C" fn mastfrap_read_reply(
 }
 
 // reply_difference, for C.
-#[unsafe(no_mangle)]
-pub extern "C" fn mastfrap_difference(len: usize, id: u8, k: u32, reply: &[u8]) -> u32
+pub fn mastfrap_difference(len: usize, id: u8, k: u32, reply: &[u8]) -> u32
     ensures { result ≡ difference_number (differing len id k reply.now) }
 {
     let d = reply_difference(len, id, k, reply);

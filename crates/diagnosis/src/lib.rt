@@ -196,8 +196,7 @@ fn missing_in(d: Diagnosis) -> u64
 }
 
 // diagnose, for C: include/mastfrap.h.
-#[unsafe(no_mangle)]
-pub extern "C" fn mastfrap_diagnose(
+pub fn mastfrap_diagnose(
     record: &[u8],
     ram_len: usize,
     bytes: &[u8],
