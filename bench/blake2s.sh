@@ -5,7 +5,7 @@
 # not inlined the rounds (docs/PROVING.md, "Why the hash is fast").
 set -eu
 cd "$(dirname "$0")/.."
-rt staticlib blake2s >/dev/null
+scripts/archive blake2s
 mkdir -p target/bench
 peer=()
 if echo '#include <blake2.h>' | gcc -E - >/dev/null 2>&1; then peer=(-DLIBB2 -lb2); fi

@@ -1,7 +1,5 @@
 """The table of bench/firmware.sh: firmware.py [-v] PROVED PEER, two folders that firmware/build.sh has made."""
 import argparse
-import os
-import platform
 import re
 import shutil
 import subprocess
@@ -15,6 +13,7 @@ TOP = Path(__file__).resolve().parent.parent
 sys.path.insert(0, str(TOP / "tests"))
 import items
 from head import blake2s, headlog
+from programs import tool
 
 # What the proved head may take at most. TKey has 8,192 bytes of ROM, and 3,000 of stack.
 MOST = {
@@ -167,10 +166,9 @@ def stack(folder):
 
 def linked(folder, calls):
     """These calls and what they call, in one file without the rest."""
-    linker = Path(os.environ.get("RATTLE_HOME", "/opt/rattle")) / "on" / platform.machine() / "toolchain" / "bin" / "ld.lld"
     roots = [word for call in calls for word in ("-u", call)]
     out = folder / "calls"
-    subprocess.run([linker, "--gc-sections", "-e", calls[0], *roots, folder / "libmastfrap.a", "-o", out], check=True)
+    subprocess.run([tool("ld.lld"), "--gc-sections", "-e", calls[0], *roots, folder / "libmastfrap.a", "-o", out], check=True)
     return Elf(out)
 
 

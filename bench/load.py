@@ -89,7 +89,7 @@ def by_program(path):
     high = fcntl.fcntl(line, fcntl.F_DUPFD, 10)
     out = os.open(os.devnull, os.O_WRONLY)
     actions = [(os.POSIX_SPAWN_DUP2, out, fd) for fd in (1, 2, 3)] + [(os.POSIX_SPAWN_DUP2, high, fd) for fd in (4, 5)]
-    program = str(TOP / "target" / "bin" / "load")
+    program = subprocess.run([TOP / "scripts" / "built", "load"], stdout=subprocess.PIPE, text=True, check=True).stdout.removesuffix("\n")
     began = time.perf_counter()
     child = os.posix_spawn(program, [program, device, path, "0", "100", "1"], os.environ, file_actions=actions)
     os.waitpid(child, 0)

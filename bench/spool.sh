@@ -4,7 +4,7 @@
 # hash. Needs gcc.
 set -eu
 cd "$(dirname "$0")/.."
-rt staticlib spool >/dev/null
+scripts/archive spool
 mkdir -p target/bench
 gcc -O3 -c bench/reference.c -o target/bench/reference.o
 gcc -O3 -Wall -I include -c bench/blocks.c -o target/bench/blocks.o

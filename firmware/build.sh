@@ -10,7 +10,7 @@
 set -eu
 cd "$(dirname "$0")/.."
 out=${1:-target/riscv32}
-tools=${RATTLE_HOME:-/opt/rattle}/on/$(uname -m)/toolchain/bin
+tools=$(dirname "$(rt doc)")/toolchain/bin
 
 # -inline-threshold: with less, more calls, and what they hand over in memory; with more, code is repeated.
 target=(--target=riscv32-unknown-none-elf -march=rv32ic_zmmul -mabi=ilp32)
@@ -26,11 +26,11 @@ compile() { # NAME WORDS...
     "$tools/clang" -c -o "$out/$1.o" "${@:2}" || fail "$1 does not compile"
 }
 
-# The proved crate, as an object. The kit proves it again to make its module, so that is kept until the crate changes.
+# The proved calls, as an object. The kit reads the proofs again to make their module, so that is kept until a crate changes.
 proved() {
-    rt check abi > "$out/log" 2>&1 || fail "abi is not proved: $(tail -n 1 "$out/log")"
-    if [ ! "$out/x86_64.ll" -nt target/rlib/abi.rlib ]; then
-        firmware/module.sh abi "$out/new.ll" || fail "there is no module of abi"
+    scripts/archive abi > "$out/log" 2>&1 || fail "abi is not proved: $(tail -n 1 "$out/log")"
+    if [ ! "$out/x86_64.ll" -nt target/staticlib/libabi.a ]; then
+        firmware/module.sh abi_c "$out/new.ll" || fail "there is no module of abi_c"
         mv "$out/new.ll" "$out/x86_64.ll"
     fi
     python3 firmware/retarget.py < "$out/x86_64.ll" > "$out/abi.ll" || fail "the module of abi cannot be made one for riscv32"

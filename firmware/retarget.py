@@ -18,7 +18,7 @@ TARGET = {
     "target datalayout": "e-m:e-p:32:32-i64:64-n32-S128",
     "target triple": "riscv32-unknown-none-elf",
 }
-ATTRIBUTES = '"probe-stack"="inline-asm" "target-cpu"="x86-64"'
+ATTRIBUTES = '"probe-stack"="inline-asm" "stack-probe-size"="3072" "target-cpu"="x86-64-v2"'
 # Called several times, and large when written out: the steps of the hash twenty times, the hash three.
 CALLED = ['"compression::column_step"', '"compression::diagonal_step"', '"blake2s::stream::whole"']
 MOST = 16  # an alignment that none is above

@@ -26,7 +26,7 @@ KAT = {
 
 
 def build():
-    subprocess.run(["rt", "staticlib", "blake2s"], cwd=TOP, check=True, stdout=subprocess.DEVNULL)
+    subprocess.run(["scripts/archive", "blake2s"], cwd=TOP, check=True)
     os.makedirs(os.path.dirname(PROGRAM), exist_ok=True)
     subprocess.run(
         ["gcc", "-O2", "-Wall", "-Wextra", "-Werror", "-I", "include", "tests/c_blake2s.c"]

@@ -18,7 +18,8 @@ from pathlib import Path
 import driven
 import server
 from head import PRINTER_RAM, TYPE_CLIENT, TYPE_CLIENT_VER, blake2s
-from random_sessions import HEADLOG, play
+from programs import path_of
+from random_sessions import play
 
 TOP = Path(__file__).parent.parent
 PROGRAM = TOP / "target" / "tests" / "c_client"
@@ -47,9 +48,8 @@ KINDS = {
 
 
 def build():
-    subprocess.run(["rt", "staticlib", "client"], cwd=TOP, check=True, stdout=subprocess.DEVNULL)
-    if not HASH.exists():  # c_blake2s.py makes it anew, which takes a minute; here it is only linked
-        subprocess.run(["rt", "staticlib", "blake2s"], cwd=TOP, check=True, stdout=subprocess.DEVNULL)
+    for name in ("client", "blake2s"):
+        subprocess.run(["scripts/archive", name], cwd=TOP, check=True)
     os.makedirs(PROGRAM.parent, exist_ok=True)
     options = ["-O2", "-Wall", "-Wextra", "-Werror", "-I", "include"]
     subprocess.run(["gcc", *options, "tests/c_client.c", CLIENT, HASH, "-o", PROGRAM], cwd=TOP, check=True)
@@ -257,5 +257,5 @@ def main(headlog):
 
 if __name__ == "__main__":
     parser = argparse.ArgumentParser(description=__doc__, formatter_class=argparse.RawDescriptionHelpFormatter)
-    parser.add_argument("--headlog", default=HEADLOG)
-    sys.exit(main(parser.parse_args().headlog))
+    parser.add_argument("--headlog")
+    sys.exit(main(parser.parse_args().headlog or path_of("headlog")))

@@ -27,7 +27,7 @@ NUMBERS = {"started": 65, "unfinished": 66, "waiting": 67, "missing": 68}
 
 
 def build():
-    subprocess.run(["rt", "staticlib", "diagnosis"], cwd=TOP, check=True, stdout=subprocess.DEVNULL)
+    subprocess.run(["scripts/archive", "diagnosis"], cwd=TOP, check=True)
     PROGRAM.parent.mkdir(parents=True, exist_ok=True)
     options = ["-O2", "-Wall", "-Wextra", "-Werror", "-I", "include"]
     subprocess.run(["gcc", *options, "tests/c_diagnose.c", ARCHIVE, "-o", PROGRAM], cwd=TOP, check=True)

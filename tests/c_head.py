@@ -44,11 +44,7 @@ FEWER = 3  # for the emulator, of the lists that take the longest, one in so man
 
 
 def build():
-    """Builds the library. The kit proves the crate again for that, so it is kept until a crate changes."""
-    changed = max(path.stat().st_mtime_ns for path in [TOP / "crates.txt", *(TOP / "crates").rglob("*")])
-    if LIBRARY.exists() and LIBRARY.stat().st_mtime_ns > changed:
-        return
-    subprocess.run(["rt", "staticlib", "abi"], cwd=TOP, check=True, stdout=subprocess.DEVNULL)
+    subprocess.run(["scripts/archive", "abi"], cwd=TOP, check=True)
     LIBRARY.parent.mkdir(parents=True, exist_ok=True)
     whole = ["-Wl,--whole-archive", ARCHIVE, "-Wl,--no-whole-archive"]
     subprocess.run(["gcc", "-shared", *whole, "-o", LIBRARY], check=True)

@@ -36,7 +36,7 @@ ENTRIES = ["kept", "replaced", "lost"]
 
 
 def build():
-    subprocess.run(["rt", "staticlib", "spool"], cwd=TOP, check=True, stdout=subprocess.DEVNULL)
+    subprocess.run(["scripts/archive", "spool"], cwd=TOP, check=True)
     PROGRAM.parent.mkdir(parents=True, exist_ok=True)
     options = ["-O2", "-Wall", "-Wextra", "-Werror", "-I", "include"]
     subprocess.run(["gcc", *options, "tests/c_spool.c", ARCHIVE, "-o", PROGRAM], cwd=TOP, check=True)

@@ -5,9 +5,9 @@ A `Calls` gathers calls with what an independent program says of each; `play` ru
 """
 import struct
 import subprocess
-from pathlib import Path
 
-PROGRAM = Path(__file__).parent.parent / "target" / "bin" / "test_calls"
+from programs import path_of
+
 SIZE = 320  # of a call
 
 HASH_BEGIN, HASH_UPDATE, HASH_FINISH, READ_HEADER, WRITE_HEADER, DERIVE, READ_REPLY_HEADER = range(2, 9)
@@ -56,7 +56,7 @@ class Calls:
 
     def play(self):
         """What is wrong, or nothing."""
-        done = subprocess.run([PROGRAM], input=self.input(), stdout=subprocess.PIPE)
+        done = subprocess.run([path_of("test_calls")], input=self.input(), stdout=subprocess.PIPE)
         if what := self.difference(done.stdout):
             return what
         return None if done.returncode == 0 else f"exit status {done.returncode}"

@@ -22,6 +22,7 @@ from pathlib import Path
 import built
 import simulate
 from head import PREFIX, PRINTER_RAM, RAM_MOST, ZEROS, blake2s
+from programs import path_of
 from reasons import blocks, frame, kinds, load, missing_kinds, others, reason_of, reasons, record_of
 from sessions import BITS, STOPPING_TYPES, session
 from simulate import Wrong, child, ended_by, expect, written
@@ -31,7 +32,6 @@ sys.path.insert(0, str(TOP / "scripts"))
 import command
 
 DIAGNOSE = TOP / "diagnose"
-PROGRAM = TOP / "target" / "bin" / "diagnose"
 STORED = TOP / "crates" / "diagnose"
 SECONDS = 30
 SESSIONS = range(BITS - 56, BITS + 644)  # seeds; those below BITS have one bit of a digest wrong
@@ -421,7 +421,7 @@ def wait_for_child(process):
     end = time.monotonic() + SECONDS
     while time.monotonic() < end:
         try:
-            if os.readlink(f"/proc/{child(process)}/exe") == str(PROGRAM):
+            if os.readlink(f"/proc/{child(process)}/exe") == str(path_of("diagnose")):
                 return
         except (OSError, IndexError):
             pass
@@ -475,7 +475,7 @@ def unreadable(folder):
     inside, record, capture = files(folder)
     copy, behind = TOP, ()
     if os.getuid() == 0:
-        copy, behind = built.Copy(inside / "nobody's", PROGRAM), built.NOBODY
+        copy, behind = built.Copy(inside / "nobody's", path_of("diagnose")), built.NOBODY
         copy.ended("scripts/built", "diagnose")
         folder.chmod(0o755)
         inside.chmod(0o755)
@@ -584,7 +584,7 @@ def main(path):
         if path:
             return int(bool(missing_kinds(told_by(path))))
         failed = simulate.run_all(cases(), "diagnose")
-        seen = told_by(PROGRAM)
+        seen = told_by(path_of("diagnose"))
     except Wrong as what:
         print(f"diagnose: {what}", file=sys.stderr)
         return 1

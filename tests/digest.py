@@ -15,10 +15,10 @@ from pathlib import Path
 
 import built
 import pty_peer
+from programs import path_of
 
 TOP = Path(__file__).resolve().parent.parent
 DIGEST = TOP / "digest"
-BINARY = TOP / "target" / "bin" / "digest"
 SIZES = [0, 1, 63, 64, 65, 65535, 65536, 65537, 1000003]
 LONGEST = 2**32 - 1  # of zeros
 LONGEST_DIGEST = "5052d898d9fa18a8e256b6944071ae334835abbfa6a76a856df48f7c86a44d4b"
@@ -92,7 +92,7 @@ def unreadable(folder):
         secret.chmod(0)
         return refused(str(secret), "Permission denied")
     secret.chmod(0o600)
-    copy = built.Copy(folder / "nobody's", BINARY)
+    copy = built.Copy(folder / "nobody's", path_of("digest"))
     copy.ended("scripts/built", "digest")
     folder.chmod(0o755)
     return differs("no permission", copy.started("digest", secret, behind=built.NOBODY), 1, "", f"digest: {secret}: Permission denied\n")
@@ -112,7 +112,7 @@ def is_waiting(name):
     """Whether the program sleeps with this file open: in a read of it."""
     for process in Path("/proc").glob("[0-9]*"):
         try:
-            if os.readlink(process / "exe") == str(BINARY) and name in map(os.readlink, (process / "fd").iterdir()):
+            if os.readlink(process / "exe") == str(path_of("digest")) and name in map(os.readlink, (process / "fd").iterdir()):
                 return (process / "stat").read_text().split()[2] == "S"
         except OSError:
             continue
@@ -149,7 +149,7 @@ def not_hashed(folder):
 
 
 def main():
-    subprocess.run([TOP / "scripts" / "built", "digest"], check=True, stdout=subprocess.DEVNULL)
+    path_of("digest")
     memory = "/dev/shm" if os.path.isdir("/dev/shm") else None  # there zeros are read twice as fast
     with tempfile.TemporaryDirectory() as name, tempfile.TemporaryDirectory(dir=memory) as large:
         folder = Path(name)

@@ -10,7 +10,6 @@ Without qemu-riscv32, of Debian's package qemu-user, nothing is played: a failur
 """
 import argparse
 import os
-import platform
 import shutil
 import struct
 import subprocess
@@ -22,6 +21,7 @@ import items
 import random_sessions
 from head import PREFIX
 from lent import Difference, Program
+from programs import tool
 
 TOP = Path(__file__).resolve().parent.parent
 EMULATOR = "qemu-riscv32"
@@ -76,9 +76,8 @@ def build_tested():
     if (tests := module.read_text().count("call void @mastfrap_test_alignment(")) == 0:
         raise Difference("retarget.py --test put no test of an alignment into the module")
     build(ALIGNED, module, "tests/aligned.c", "tests/calls_riscv32.c")
-    linker = Path(os.environ.get("RATTLE_HOME", "/opt/rattle")) / "on" / platform.machine() / "toolchain" / "bin" / "ld.lld"
     parts = [ALIGNED / name for name in ("linux_riscv32.o", "calls_calls_riscv32.o", "libmastfrap.a")]
-    subprocess.run([linker, "--gc-sections", *parts, "-o", program], check=True)
+    subprocess.run([tool("ld.lld"), "--gc-sections", *parts, "-o", program], check=True)
     print(f"firmware: {tests} pointers whose alignment is tested at each call")
     return program
 

@@ -13,7 +13,8 @@ import sys
 from pathlib import Path
 
 import stored
-from random_sessions import HEADLOG, wrong
+from programs import path_of
+from random_sessions import wrong
 
 ROOT = Path(__file__).resolve().parent.parent
 SAMPLE = ROOT / "sample"
@@ -174,11 +175,11 @@ def check(path, want):
     return stored.check(path, want)
 
 
-def play(name, lines, command=(HEADLOG,)):
+def play(name, lines, command=None):
     """0 if headlog prints these lines for an item and reads all of it, and no byte more; otherwise says what is wrong, and gives 1."""
     data = (SAMPLE / f"{name}.bin").read_bytes()
     after = b"" if lines[-1].startswith("W") else b"\xff\x10\x01"
-    what = wrong(command, data + after, lines, len(data))
+    what = wrong(command or [path_of("headlog")], data + after, lines, len(data))
     if what:
         print(f"{name}: {what}", file=sys.stderr)
     return int(bool(what))

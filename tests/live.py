@@ -7,11 +7,11 @@ import os
 import select
 import subprocess
 import sys
-from pathlib import Path
 
 import items
+from programs import path_of
 
-HEADLOG = Path(__file__).parent.parent / "target" / "bin" / "headlog"
+HEADLOG = path_of("headlog")
 SECONDS = 20  # for a line that must come
 QUIET = 0.3  # for one that must not
 QUERIES = 100_000

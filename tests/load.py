@@ -24,6 +24,7 @@ import pty_peer
 import server
 import simulate
 from head import RAM_MOST, blake2s
+from programs import path_of
 from pty_peer import TTY, Terminal, answering, echo, play, silent
 from simulate import Head, child, ended_by, expect, shown, started, written
 
@@ -433,7 +434,7 @@ def unreadable(folder):
     if os.getuid() != 0:
         expect("no permission", run(terminal.name, path), wanted)
         return
-    copy = built.Copy(folder / "nobody's", TOP / "target" / "bin" / "load")
+    copy = built.Copy(folder / "nobody's", path_of("load"))
     copy.ended("scripts/built", "load")
     folder.chmod(0o755)
     expect("no permission", ran(copy.started("load", terminal.name, path, behind=built.NOBODY)), wanted)

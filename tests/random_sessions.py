@@ -10,12 +10,11 @@ import subprocess
 import sys
 import tempfile
 from collections import Counter
-from pathlib import Path
 
 from head import PREFIX, headlog
+from programs import path_of
 from sessions import BAD_FLAGS, BAD_SIZES, LARGE_SIZES, SIZES, STOPPING_TYPES, session
 
-HEADLOG = Path(__file__).parent.parent / "target" / "bin" / "headlog"
 SESSIONS = 1456
 MOST_FAILURES = 5
 SECONDS = 60  # for one session
@@ -120,10 +119,10 @@ def report(seen, received):
 
 if __name__ == "__main__":
     parser = argparse.ArgumentParser(description=__doc__, formatter_class=argparse.RawDescriptionHelpFormatter)
-    parser.add_argument("--headlog", default=HEADLOG)
+    parser.add_argument("--headlog")
     parser.add_argument("--seed", type=int)
     args = parser.parse_args()
     if args.seed is not None:
         sys.stdout.buffer.write(session(args.seed)[1])
         sys.exit(0)
-    sys.exit(main([args.headlog]))
+    sys.exit(main([args.headlog or path_of("headlog")]))

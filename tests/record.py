@@ -15,6 +15,7 @@ from pathlib import Path
 import built
 import simulate
 from head import ZEROS, blake2s
+from programs import path_of
 from pty_peer import Terminal
 from simulate import STOPS, Head, Wrong, boots, expect, shown, started, written
 
@@ -23,7 +24,6 @@ sys.path.insert(0, str(TOP / "scripts"))
 import command
 
 RECORD = TOP / "record"
-PROGRAM = TOP / "target" / "bin" / "recorder"
 STORED = TOP / "crates" / "recorder"
 SECONDS = 30
 LAYOUT = "<II32s32s184s"
@@ -174,7 +174,7 @@ class Program:
 
     def hold(self, what, words, given, wanted):
         fd = command.front(given)
-        number = command.run("recorder", str(PROGRAM), words, {0: fd, 1: self.out, 2: self.err})
+        number = command.run("recorder", str(path_of("recorder")), words, {0: fd, 1: self.out, 2: self.err})
         os.close(fd)
         expect(what, (number, emptied(self.out), emptied(self.err).decode()), wanted)
         self.runs += 1
@@ -349,7 +349,7 @@ def unreadable(folder):
     secret = written(inside, "secret", bytes(256))
     copy, behind = TOP, ()
     if os.getuid() == 0:
-        copy, behind = built.Copy(inside / "nobody's", PROGRAM), built.NOBODY
+        copy, behind = built.Copy(inside / "nobody's", path_of("recorder")), built.NOBODY
         copy.ended("scripts/built", "recorder")
         folder.chmod(0o755)
         inside.chmod(0o755)

@@ -19,6 +19,7 @@ from pathlib import Path
 import built
 import server
 from head import RAM_MOST, blake2s
+from programs import path_of
 from pty_peer import Terminal, opened
 
 TOP = Path(__file__).resolve().parent.parent
@@ -596,7 +597,7 @@ def run_all(cases, *programs):
     """Builds the programs, runs the cases, four beside each other, and gives the exit status."""
     signal.signal(signal.SIGINT, signal.default_int_handler)  # a shell starts what runs beside it without one
     for name in programs:
-        subprocess.run([TOP / "scripts" / "built", name], check=True, stdout=subprocess.DEVNULL)
+        path_of(name)
     with tempfile.TemporaryDirectory() as name, concurrent.futures.ThreadPoolExecutor(4) as pool:
         runs = [pool.submit(wrong, what, case, Path(name)) for what, case in cases]
         failed = sum(run.result() for run in runs)

@@ -17,6 +17,7 @@ import built
 import simulate
 import spools
 from head import blake2s
+from programs import path_of
 from pty_peer import Terminal
 from simulate import Wrong, expect, written
 from spools import BLOCK, CAPACITY, LOST, PROGRAM_MOST, REPLACED, SPOOL_MOST
@@ -26,7 +27,6 @@ sys.path.insert(0, str(TOP / "scripts"))
 import command
 
 SPOOL = TOP / "spool"
-PROGRAM = TOP / "target" / "bin" / "spooler"
 STORED = TOP / "crates" / "spooler"
 SECONDS = 60
 SPARES_MOST = 4194304
@@ -341,7 +341,7 @@ def program_runs(folder):
     for what, task, data, spares in many_runs():
         path.write_bytes(data)
         more = [(written(folder, f"spares {k}", spare), spare) for k, spare in enumerate(spares)]
-        number = command.run("spool", str(PROGRAM), [task, str(path), *(str(name) for name, _ in more)], {1: out, 2: err})
+        number = command.run("spool", str(path_of("spooler")), [task, str(path), *(str(name) for name, _ in more)], {1: out, 2: err})
         expect(what, (number, emptied(out), emptied(err).decode()), outcome(task, path, data, more))
         runs += 1
     return runs
@@ -414,7 +414,7 @@ def unreadable(folder):
     secret, good = written(here, "secret", bytes(512)), written(here, "good", spools.spool_of(b"x"))
     copy, behind = TOP, ()
     if os.getuid() == 0:
-        copy, behind = built.Copy(here / "nobody's", PROGRAM), built.NOBODY
+        copy, behind = built.Copy(here / "nobody's", path_of("spooler")), built.NOBODY
         copy.ended("scripts/built", "spooler")
         folder.chmod(0o755)
         here.chmod(0o755)
