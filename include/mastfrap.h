@@ -4,12 +4,12 @@
  * loom did not start as proved in crates/diagnosis, design spools as proved in crates/spool, and the head
  * itself, for its firmware, as proved in crates/abi.
  *
- *     rt staticlib blake2s    target/staticlib/libblake2s.a    mastfrap_blake2s
- *     rt staticlib client     target/staticlib/libclient.a     mastfrap_make_frame, _read_reply, _difference
- *     rt staticlib diagnosis  target/staticlib/libdiagnosis.a  mastfrap_diagnose
- *     rt staticlib spool      target/staticlib/libspool.a      mastfrap_spool_read, _look, _write, _salvage
- *     rt staticlib abi        target/staticlib/libabi.a        mastfrap_begin, _gather, _act, _reset
- *     firmware/build.sh       target/riscv32/libmastfrap.a     the same four, for riscv32
+ *     scripts/archive blake2s    target/staticlib/libblake2s.a    mastfrap_blake2s
+ *     scripts/archive client     target/staticlib/libclient.a     mastfrap_make_frame, _read_reply, _difference
+ *     scripts/archive diagnosis  target/staticlib/libdiagnosis.a  mastfrap_diagnose
+ *     scripts/archive spool      target/staticlib/libspool.a      mastfrap_spool_read, _look, _write, _salvage
+ *     scripts/archive abi        target/staticlib/libabi.a        mastfrap_begin, _gather, _act, _reset
+ *     firmware/build.sh          target/riscv32/libmastfrap.a     the same four, for riscv32
  *
  * Link those whose calls you use: they have no symbol in common, but for the last two.
  *
