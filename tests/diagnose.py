@@ -326,7 +326,7 @@ def reads_no_more(program):
 
 
 def stored(program):
-    """What `rt check` runs the program on."""
+    """What `rt ci` runs the program on."""
     data = STORED / "data"
     record, capture = (data / "record.bin").read_bytes(), (data / "capture.bin").read_bytes()
     out = (STORED / "stdout").read_text()

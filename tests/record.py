@@ -226,7 +226,7 @@ def program_runs():
 
 
 def stored(folder):
-    """What `rt check` runs the program on."""
+    """What `rt ci` runs the program on."""
     record = (STORED / "stdin").read_bytes()
     expect("its record", record, record_of(5, OLD, NEW, (CDI, bytes(range(32, 64))), b"a note for the next program"))
     expect("its words", ((STORED / "args").read_text(), (STORED / "stdout").read_text()), ("show\n", words_of(record)))

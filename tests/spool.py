@@ -348,7 +348,7 @@ def program_runs(folder):
 
 
 def stored(folder):
-    """What `rt check` runs the program on: each fault in a block of its own."""
+    """What `rt ci` runs the program on: each fault in a block of its own."""
     program = b"".join(f"a design, line {k}\n".encode() for k in range(150))
     spool = spools.spool_of(program)
     blocks = spools.parts(spool, BLOCK)
