@@ -1,8 +1,12 @@
 // A text of at most 512 bytes as a value, put together part by part. A part that does not fit is cut; whoever makes a text shows that it fits.
 #![tactic(auto)]
 
-ghost use Rattle.std.specs.Prelude.{◌≡◌, [], ◌∷◌, ◌<◌, replicate};
-ghost use Rattle.text.specs.Text.{hex_digit, hex_of, decimal_of, added, text_of};
+ghost use Rattle.std.specs.Prelude.{◌≡◌, ℕ, [], ◌∷◌, ◌<◌, ◌^◌, OnOk, replicate, take};
+ghost use Rattle.std.specs.Io.KnownBytes.{Appends};
+ghost use Rattle.text.specs.Text.{hex_digit, hex_of, decimal_in, decimal_of, added, text_of};
+
+use std::io;
+use std::io::Write;
 
 #[derive(Clone, Copy)]
 pub struct Text {
@@ -94,17 +98,27 @@ pub fn put_hex(t: Text, s: &[u8]) -> Text
 pub fn put_decimal(t: Text, n: u64) -> Text
     ensures { result ≡ added t (decimal_of n) }
 {
-    let mut digits = [0u8; 20];
-    let k = io::decimal(n, &mut digits);
-    put_all(t, &digits[..k])
+    put_digits(t, n)
 }
 
-// Writes a text to a descriptor: whether all of it was written. No text from `empty` and the calls above is longer than its bytes.
-pub fn write(fd: i32, t: Text) -> bool {
+// The digits of a number, of which there are as few as hold it.
+fn put_digits(t: Text, n: u64) -> Text
+    ensures { (k : ℕ) → 0 < k → n < 10 ^ k → result ≡ added t (decimal_in k n) }
+{
+    if n < 10 {
+        return put(t, 48 + n as u8);
+    }
+    put(put_digits(t, n / 10), 48 + (n % 10) as u8)
+}
+
+// Writes a text. No text from `empty` and the calls above is longer than its bytes.
+pub fn write<W: Write>(to: &mut W, t: Text) -> io::Result<()>
+    ensures { OnOk result (Appends (W.contents to.old) (W.contents to.new) (take t.len t.bytes)) }
+{
     let n = t.len;
     let bytes = t.bytes;
     if n <= 512 {
-        return io::write_all(fd, &bytes[..n]);
+        return to.write_all(&bytes[..n]);
     }
-    false
+    Err(io::Error::from(io::ErrorKind::InvalidInput))
 }

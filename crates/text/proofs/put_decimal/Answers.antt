@@ -1,13 +1,10 @@
--- The digits that io gives are the decimal form.
-use mathlib.Core.Path.{◌∙◌}
-use Rattle.text.proofs.Decimals.{few, decimal_of_is}
-use borrow.Author.Rules.{rules}
+-- Of 64 bits, so that 20 digits hold it.
+use Rattle.std.proofs.Common.{◌<◌, ◌^◌, arith}
+use Rattle.text.specs.Text.{decimal_of}
 use Rattle.text.proofs.put_decimal.Goals as goal
 
 pub returns : goal.returns
+unfolding decimal_of
 returns c =
-    let n = c.args.n in
-    let d = c.decimal-k in
-    let k = few d.result n d.ensures.1.0 (search rules) in
-    let e = d.ensures.1.1 ∙ decimal_of_is d.result n k d.ensures.1.0 in
-    rw e at c.put_all.ensures
+    let f : c.args.n < 2 ^ 64 = c.ranges.n.fits in
+    c.put_digits.ensures 20 (omega arith) (omega arith)
