@@ -11,25 +11,25 @@ use Rattle.cdi.proofs.string.Goals as goal
 
 pub slice_bounds-copy_from_slice-end-3 : goal.slice_bounds-copy_from_slice-end-3
 slice_bounds-copy_from_slice-end-3 c =
-    let l : length c.copy_from_slice.new.1.0 ≡ 32 = search rules in
+    let l : length c.copy_from_slice.new.self ≡ 32 = search rules in
     simp (length-set, length-append) (omega arith)
 
 pub slice_bounds-copy_from_slice-end-4 : goal.slice_bounds-copy_from_slice-end-4
 slice_bounds-copy_from_slice-end-4 c =
-    let b = set (c.copy_from_slice.new.1.0 ++ replicate 65 0) 32 c.args.domain in
-    let l : length c.copy_from_slice.new.1.0 ≡ 32 = search rules in
-    let e : length (put_mid 33 32 b c.copy_from_slice-2.new.1.0) ≡ length b = same_len_mid 33 32 b c.copy_from_slice-2.new.1.0 (search rules) in
+    let b = set (c.copy_from_slice.new.self ++ replicate 65 0) 32 c.args.domain in
+    let l : length c.copy_from_slice.new.self ≡ 32 = search rules in
+    let e : length (put_mid 33 32 b c.copy_from_slice-2.new.self) ≡ length b = same_len_mid 33 32 b c.copy_from_slice-2.new.self (search rules) in
     rw (e, length-set, length-append) (omega arith)
 
 pub returns : goal.returns
 returns c =
     let a = c.args in
-    let b2 = set (c.copy_from_slice.new.1.0 ++ replicate 65 0) 32 a.domain in
-    let b3 = put_mid 33 32 b2 c.copy_from_slice-2.new.1.0 in
+    let b2 = set (c.copy_from_slice.new.self ++ replicate 65 0) 32 a.domain in
+    let b3 = put_mid 33 32 b2 c.copy_from_slice-2.new.self in
     let hu : length a.uds ≡ 32 = search rules in
     let hm : length a.measurement ≡ 32 = search rules in
     let hs : length a.uss ≡ 32 = search rules in
-    let e1 : c.copy_from_slice.new.1.0 ≡ a.uds = c.copy_from_slice.ensures.after ∙ copied a.uds (replicate 97 0) 32 hu in
-    let e2 : c.copy_from_slice-2.new.1.0 ≡ a.measurement = c.copy_from_slice-2.ensures.after ∙ copied a.measurement (drop 33 b2) 32 hm in
-    let e3 : c.copy_from_slice-3.new.1.0 ≡ a.uss = c.copy_from_slice-3.ensures.after ∙ copied a.uss (drop 65 b3) 32 hs in
+    let e1 : c.copy_from_slice.new.self ≡ a.uds = c.copy_from_slice.ensures.after in
+    let e2 : c.copy_from_slice-2.new.self ≡ a.measurement = c.copy_from_slice-2.ensures.after in
+    let e3 : c.copy_from_slice-3.new.self ≡ a.uss = c.copy_from_slice-3.ensures.after in
     rw (e1, e2, e3) (whole a.uds a.domain a.measurement hu hm a.uss)
