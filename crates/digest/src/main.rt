@@ -4,7 +4,8 @@
 #![tactic(auto)]
 
 use blake2s::{Answer, Context};
-use libc::{STDERR_FILENO, STDOUT_FILENO};
+use std::io;
+use std::io::Read;
 
 // What a read leads to.
 #[derive(Clone, Copy)]
@@ -23,40 +24,42 @@ struct Part {
     context: Context,
 }
 
-fn main() {
-    let ok = run();
-    io::print_decimal(3, if ok { 0 } else { 1 });
+fn main(rt: HostRuntime) {
+    let mut number = input::open_number(&rt);
+    let ok = run(&rt);
+    input::give_number(&mut number, if ok { 0 } else { 1 });
 }
 
 // Whether the line is out. If not, one on standard error says why.
-fn run() -> bool {
-    if os::arg_count() != 2 {
-        io::write_all(STDERR_FILENO, b"digest: usage: ./digest PROGRAM\n");
+fn run(rt: &HostRuntime) -> bool {
+    if !input::is_given(rt, 1) || input::is_given(rt, 2) {
+        let _ = rt.stderr().write_all(b"digest: usage: ./digest PROGRAM\n");
         return false;
     }
-    let mut path = io::buffer();
-    let length = os::arg(1, &mut path);
-    if os::errno() != 0 {
-        fail(&path);
-        return false;
+    let mut path = input::buffer();
+    match input::name_at(rt, 1, &mut path) {
+        Err(why) => fail(rt, &path, why),
+        Ok(length) => open(rt, &path[..length]),
     }
-    let fd = os::open_read(&path[..length]);
-    if fd < 0 {
-        fail(&path[..length]);
-        return false;
-    }
-    hash_file(fd, &path[..length])
 }
 
-// Says what errno says of a file.
-fn fail(name: &[u8]) {
-    io::write_all(STDERR_FILENO, b"digest: ");
-    os::fail(name);
+fn open(rt: &HostRuntime, name: &[u8]) -> bool {
+    match input::open(rt, 1, name) {
+        Err(why) => fail(rt, name, why),
+        Ok(mut file) => hash_file(rt, &mut file, name),
+    }
+}
+
+// Says of a file why it failed, as errno does: no line is out.
+fn fail(rt: &HostRuntime, name: &[u8], why: io::Error) -> bool {
+    let _ = rt.stderr().write_all(b"digest: ");
+    input::fail(rt, &mut rt.stderr(), name, why);
+    false
 }
 
 // Prints the line of an open file.
-fn hash_file(fd: i32, name: &[u8]) -> bool {
-    let part = hash_all(fd, name);
+fn hash_file<F: Read>(rt: &HostRuntime, file: &mut F, name: &[u8]) -> bool {
+    let part = hash_all(rt, file, name);
     let step = part.step;
     let Step::End = step else {
         return false;
@@ -64,16 +67,15 @@ fn hash_file(fd: i32, name: &[u8]) -> bool {
     let mut hash = [0u8; 32];
     let context = part.context;
     blake2s::finish(context, &mut hash);
-    let written = print_line(hash, name);
-    if !written {
-        fail(name);
+    match print_line(rt, hash, name) {
+        Err(why) => fail(rt, name, why),
+        Ok(()) => true,
     }
-    written
 }
 
 // Hashes a file to its end. A proved loop has to end, and nothing says that a file does, so the turns are counted down from a number that
 // no file uses up: a turn takes at least one byte, and 2^32 bytes are too many.
-fn hash_all(fd: i32, name: &[u8]) -> Part {
+fn hash_all<F: Read>(rt: &HostRuntime, file: &mut F, name: &[u8]) -> Part {
     let begun = blake2s::begin(&[], 32);
     let context = begun.context;
     let mut part = Part {
@@ -83,7 +85,7 @@ fn hash_all(fd: i32, name: &[u8]) -> Part {
     let mut turns = u64::MAX;
     while turns > 0 && goes_on(part) {
         let context = part.context;
-        let next = hash_some(fd, name, context);
+        let next = hash_some(rt, file, name, context);
         part = next;
         turns -= 1;
     }
@@ -100,51 +102,49 @@ fn goes_on(p: Part) -> bool {
 }
 
 // Reads once and hashes what came.
-fn hash_some(fd: i32, name: &[u8], context: Context) -> Part {
-    let mut buf = io::large_buffer();
-    let got = libc::read(fd, &mut buf);
-    if got < 0 {
-        fail(name);
-        return Part {
-            step: Step::Failed,
-            context,
-        };
-    }
-    if got == 0 {
-        return Part {
+fn hash_some<F: Read>(rt: &HostRuntime, file: &mut F, name: &[u8], context: Context) -> Part {
+    let mut buf = input::large_buffer();
+    match file.read(&mut buf) {
+        Err(why) => {
+            fail(rt, name, why);
+            Part {
+                step: Step::Failed,
+                context,
+            }
+        }
+        Ok(0) => Part {
             step: Step::End,
             context,
-        };
+        },
+        Ok(n) => hash_part(rt, &buf[..n], name, context),
     }
-    let n = io::count(got, &buf);
-    let next = blake2s::update(context, &buf[..n]);
+}
+
+fn hash_part(rt: &HostRuntime, part: &[u8], name: &[u8], context: Context) -> Part {
+    let next = blake2s::update(context, part);
     let answer = next.answer;
     let context = next.context;
     Part {
-        step: after(answer, name),
+        step: after(rt, answer, name),
         context,
     }
 }
 
 // A part is refused only where the file has too many bytes.
-fn after(answer: Answer, name: &[u8]) -> Step {
+fn after(rt: &HostRuntime, answer: Answer, name: &[u8]) -> Step {
     let Answer::Accepted = answer else {
-        io::write_all(STDERR_FILENO, b"digest: ");
-        io::write_all(STDERR_FILENO, name);
-        io::write_all(STDERR_FILENO, b": it has more than 4294967295 bytes\n");
+        let _ = rt.stderr().write_all(b"digest: ");
+        let _ = rt.stderr().write_all(name);
+        let _ = rt.stderr().write_all(b": it has more than 4294967295 bytes\n");
         return Step::Failed;
     };
     Step::More
 }
 
-// Writes the line: whether all of it was written.
-fn print_line(hash: [u8; 32], name: &[u8]) -> bool {
+// Writes the line.
+fn print_line(rt: &HostRuntime, hash: [u8; 32], name: &[u8]) -> io::Result<()> {
     let digits = text::put_hex(text::empty(), &hash);
-    if !text::write(STDOUT_FILENO, text::put_all(digits, b"  ")) {
-        return false;
-    }
-    if !io::write_all(STDOUT_FILENO, name) {
-        return false;
-    }
-    io::write_all(STDOUT_FILENO, b"\n")
+    text::write(&mut rt.stdout(), text::put_all(digits, b"  "))?;
+    rt.stdout().write_all(name)?;
+    rt.stdout().write_all(b"\n")
 }

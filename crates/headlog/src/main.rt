@@ -3,30 +3,30 @@
 // hands over the bytes that it reads, in order, and writes each text. What cannot be written is lost: there is nobody to tell.
 #![tactic(auto)]
 
-use libc::{STDIN_FILENO, STDOUT_FILENO};
 use printer::Next;
+use std::io::Read;
 
-fn main() {
+fn main(rt: HostRuntime) {
     let mut ram = [0u8; 32768];
     let mut front = [0u8; 296];
-    let got = io::read_full(STDIN_FILENO, &mut front);
+    let got = input::read_full(&mut rt.stdin(), &mut front);
     let mut t = printer::open(front, got, &mut ram);
     let lines = t.text;
-    text::write(STDOUT_FILENO, lines);
+    let _ = text::write(&mut rt.stdout(), lines);
     while !t.over {
         let session = t.session;
-        let next = printer::advance(session, read(), &mut ram);
+        let next = printer::advance(session, read(&mut rt.stdin()), &mut ram);
         t = next;
         let lines = t.text;
-        text::write(STDOUT_FILENO, lines);
+        let _ = text::write(&mut rt.stdout(), lines);
     }
 }
 
 // One byte and no more, so that a reply is out before the next byte is waited for. A read that fails is an end.
-fn read() -> Next {
+fn read<F: Read>(from: &mut F) -> Next {
     let mut byte = [0u8; 1];
-    if libc::read(STDIN_FILENO, &mut byte) == 1 {
-        return Next::Byte(byte[0]);
+    match from.read(&mut byte) {
+        Ok(1) => Next::Byte(byte[0]),
+        _ => Next::End,
     }
-    Next::End
 }
