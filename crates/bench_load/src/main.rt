@@ -6,16 +6,16 @@ mod cable;
 mod frames;
 mod print;
 
-fn main() {
-    let input = read_numbers();
+fn main(rt: HostRuntime) {
+    let input = read_numbers(&rt);
     let size = endian::word(input[0], input[1], input[2], input[3]);
     let times = endian::word(input[4], input[5], input[6], input[7]);
-    print::report(size, cable::load_often(size, times));
+    print::report(&rt, size, cable::load_often(size, times));
 }
 
 // The eight bytes of the two numbers; those that do not come are zeros.
-fn read_numbers() -> [u8; 8] {
+fn read_numbers(rt: &HostRuntime) -> [u8; 8] {
     let mut input = [0u8; 8];
-    io::read_full(0, &mut input);
+    input::read_full(&mut rt.stdin(), &mut input);
     input
 }

@@ -1,36 +1,27 @@
-// What the program prints.
+// What the program prints. What cannot be written is lost: there is nobody to tell.
 use super::cable::Loaded;
-use libc::STDOUT_FILENO;
 
 // Size, bytes received and CDI, a line each; without a start the CDI is zeros.
-pub fn report(size: u32, l: Loaded) {
+pub fn report(rt: &HostRuntime, size: u32, l: Loaded) {
     let last = l.last;
     let cdi = last.cdi;
-    numbered(b"size ", size as u64);
-    numbered(b"received ", l.received);
-    label(b"cdi ");
-    digits(&cdi);
-    label(b"\n");
+    numbered(rt, b"size ", size as u64);
+    numbered(rt, b"received ", l.received);
+    label(rt, b"cdi ");
+    digits(rt, &cdi);
+    label(rt, b"\n");
 }
 
-fn label(name: &[u8]) {
-    io::write_all(STDOUT_FILENO, name);
+fn label(rt: &HostRuntime, name: &[u8]) {
+    let _ = rt.stdout().write_all(name);
 }
 
-fn numbered(name: &[u8], n: u64) {
-    label(name);
-    io::print_decimal(STDOUT_FILENO, n);
-    label(b"\n");
+fn numbered(rt: &HostRuntime, name: &[u8], n: u64) {
+    label(rt, name);
+    let _ = text::write(&mut rt.stdout(), text::put_decimal(text::empty(), n));
+    label(rt, b"\n");
 }
 
-fn digits(s: &[u8]) {
-    let mut i: usize = 0;
-    while i < s.len() {
-        byte(s[i]);
-        i = i + 1;
-    }
-}
-
-fn byte(b: u8) {
-    io::print_hex(STDOUT_FILENO, b as u64, 2);
+fn digits(rt: &HostRuntime, s: &[u8]) {
+    let _ = text::write(&mut rt.stdout(), text::put_hex(text::empty(), s));
 }

@@ -1,5 +1,5 @@
 // What is said of a file that is not taken.
-use libc::STDERR_FILENO;
+use std::io;
 use text::Text;
 
 // The exit status where a file cannot be read, or is not taken.
@@ -13,23 +13,23 @@ pub fn is_dash(name: &[u8]) -> bool {
     name[0] == b'-'
 }
 
-fn begin_line(name: &[u8]) {
-    io::write_all(STDERR_FILENO, b"diagnose: ");
-    io::write_all(STDERR_FILENO, name);
-    io::write_all(STDERR_FILENO, b": ");
+fn begin_line(rt: &HostRuntime, name: &[u8]) {
+    let _ = rt.stderr().write_all(b"diagnose: ");
+    let _ = rt.stderr().write_all(name);
+    let _ = rt.stderr().write_all(b": ");
 }
 
 // Says why a file is not taken, and answers the exit status.
-pub fn refuse(name: &[u8], why: Text) -> u32 {
-    begin_line(name);
-    text::write(STDERR_FILENO, why);
-    io::write_all(STDERR_FILENO, b"\n");
+pub fn refuse(rt: &HostRuntime, name: &[u8], why: Text) -> u32 {
+    begin_line(rt, name);
+    let _ = text::write(&mut rt.stderr(), why);
+    let _ = rt.stderr().write_all(b"\n");
     UNREADABLE
 }
 
 // Says why a file cannot be read, as errno does, and answers the exit status.
-pub fn fail(name: &[u8]) -> u32 {
-    begin_line(name);
-    os::fail(b"cannot be read");
+pub fn fail(rt: &HostRuntime, name: &[u8], why: io::Error) -> u32 {
+    begin_line(rt, name);
+    input::fail(rt, &mut rt.stderr(), b"cannot be read", why);
     UNREADABLE
 }

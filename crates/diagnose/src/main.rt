@@ -8,7 +8,7 @@ mod words;
 
 use diagnosis::{Monitor, Verdict};
 use input::Contents;
-use libc::{STDIN_FILENO, STDOUT_FILENO};
+use std::io::Read;
 
 // What a read leads to.
 #[derive(Clone, Copy)]
@@ -27,62 +27,68 @@ struct Part {
     monitor: Monitor,
 }
 
-fn main() {
-    let number = run();
-    io::print_decimal(3, number as u64);
+fn main(rt: HostRuntime) {
+    let mut place = input::open_number(&rt);
+    let number = run(&rt);
+    input::give_number(&mut place, number);
 }
 
 // The arguments are the names of the record and of the capture, and the RAM's length. Answers the exit status.
-fn run() -> u32 {
-    let mut record = [0u8; 257];
-    let mut name = io::buffer();
-    let n = os::arg(1, &mut name);
-    if os::errno() != 0 {
-        return files::fail(&name);
+fn run(rt: &HostRuntime) -> u32 {
+    let mut name = input::buffer();
+    match input::name_at(rt, 1, &mut name) {
+        Err(why) => files::fail(rt, &name, why),
+        Ok(n) => read(rt, &name[..n]),
     }
-    match input::read(&name[..n], &mut record) {
-        Contents::Unreadable => files::fail(&name[..n]),
-        Contents::Bytes(len) => begin(&name[..n], endian::first(&record, len)),
+}
+
+fn read(rt: &HostRuntime, name: &[u8]) -> u32 {
+    let mut record = [0u8; 257];
+    match input::read(rt, 1, name, &mut record) {
+        Contents::Unreadable(why) => files::fail(rt, name, why),
+        Contents::Bytes(len) => begin(rt, name, endian::first(&record, len)),
     }
 }
 
 // The record is read.
-fn begin(name: &[u8], record: &[u8]) -> u32 {
-    let monitor = diagnosis::begin(record, input::number_at(3) as usize);
+fn begin(rt: &HostRuntime, name: &[u8], record: &[u8]) -> u32 {
+    let monitor = diagnosis::begin(record, input::number_at(rt, 3) as usize);
     let verdict = monitor.verdict;
     match verdict {
-        Verdict::Refused(why) => files::refuse(name, words::refusal(why)),
-        _ => open(monitor),
+        Verdict::Refused(why) => files::refuse(rt, name, words::refusal(why)),
+        _ => open(rt, monitor),
     }
 }
 
 // Opens the capture; `-` is standard input.
-fn open(monitor: Monitor) -> u32 {
-    let mut name = io::buffer();
-    let n = os::arg(2, &mut name);
-    if os::errno() != 0 {
-        return files::fail(&name);
+fn open(rt: &HostRuntime, monitor: Monitor) -> u32 {
+    let mut name = input::buffer();
+    match input::name_at(rt, 2, &mut name) {
+        Err(why) => files::fail(rt, &name, why),
+        Ok(n) => open_capture(rt, &name[..n], monitor),
     }
-    if files::is_dash(&name[..n]) {
-        return conclude(STDIN_FILENO, b"standard input", monitor);
+}
+
+fn open_capture(rt: &HostRuntime, name: &[u8], monitor: Monitor) -> u32 {
+    if files::is_dash(name) {
+        return conclude(rt, &mut rt.stdin(), b"standard input", monitor);
     }
-    let fd = os::open_read(&name[..n]);
-    if fd < 0 {
-        return files::fail(&name[..n]);
+    match input::open(rt, 2, name) {
+        Err(why) => files::fail(rt, name, why),
+        Ok(mut file) => conclude(rt, &mut file, name, monitor),
     }
-    conclude(fd, &name[..n], monitor)
 }
 
 // Hears the capture, and tells what was found.
-fn conclude(fd: i32, name: &[u8], begun: Monitor) -> u32 {
-    let part = hear_all(fd, name, begun);
+fn conclude<F: Read>(rt: &HostRuntime, file: &mut F, name: &[u8], begun: Monitor) -> u32 {
+    let part = hear_all(rt, file, name, begun);
     let step = part.step;
     if let Step::Failed = step {
         return files::UNREADABLE;
     }
     let monitor = part.monitor;
-    if !text::write(STDOUT_FILENO, words::lines(monitor)) {
-        os::fail(b"diagnose: standard output");
+    if let Err(why) = text::write(&mut rt.stdout(), words::lines(monitor)) {
+        input::fail(rt, &mut rt.stderr(), b"diagnose: standard output", why);
         return 1;
     }
     0
@@ -92,12 +98,12 @@ fn conclude(fd: i32, name: &[u8], begun: Monitor) -> u32 {
 
 // Hears a capture to its end, or until the head has started or stopped. A proved loop has to end, and nothing says that a file does, so the
 // turns are counted down from a number that no file uses up: a turn takes at least one byte, and 2^64 are too many.
-fn hear_all(fd: i32, name: &[u8], begun: Monitor) -> Part {
+fn hear_all<F: Read>(rt: &HostRuntime, file: &mut F, name: &[u8], begun: Monitor) -> Part {
     let mut part = told(begun);
     let mut turns = u64::MAX;
     while turns > 0 && goes_on(part) {
         let monitor = part.monitor;
-        let next = hear_some(fd, name, monitor);
+        let next = hear_some(rt, file, name, monitor);
         part = next;
         turns -= 1;
     }
@@ -126,27 +132,29 @@ fn told(monitor: Monitor) -> Part {
 }
 
 // Reads once and hears what came.
-fn hear_some(fd: i32, name: &[u8], monitor: Monitor) -> Part {
-    let mut buf = io::large_buffer();
-    let got = libc::read(fd, &mut buf);
-    if got < 0 {
-        files::fail(name);
-        return Part {
-            step: Step::Failed,
-            monitor,
-        };
-    }
-    if got == 0 {
-        return Part {
+fn hear_some<F: Read>(rt: &HostRuntime, file: &mut F, name: &[u8], monitor: Monitor) -> Part {
+    let mut buf = input::large_buffer();
+    match file.read(&mut buf) {
+        Err(why) => {
+            files::fail(rt, name, why);
+            Part {
+                step: Step::Failed,
+                monitor,
+            }
+        }
+        Ok(0) => Part {
             step: Step::End,
             monitor,
-        };
+        },
+        Ok(n) => hear_part(rt, &buf[..n], name, monitor),
     }
-    let n = io::count(got, &buf);
-    let heard = diagnosis::hear(monitor, &buf[..n]);
+}
+
+fn hear_part(rt: &HostRuntime, part: &[u8], name: &[u8], monitor: Monitor) -> Part {
+    let heard = diagnosis::hear(monitor, part);
     let next = heard.monitor;
     if !heard.taken {
-        files::refuse(name, words::too_long());
+        files::refuse(rt, name, words::too_long());
         return Part {
             step: Step::Failed,
             monitor: next,

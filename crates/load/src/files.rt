@@ -1,6 +1,6 @@
 // What a load is given, and what is said of it.
 use client::Secret;
-use libc::STDERR_FILENO;
+use std::io;
 use upload::{Failure, Job, Turn};
 
 pub fn no_secret() -> Secret {
@@ -28,24 +28,24 @@ pub fn id(number: u32) -> u8 {
 
 // ---- what is said
 
-fn begin_line(name: &[u8]) {
-    io::write_all(STDERR_FILENO, b"load: ");
-    io::write_all(STDERR_FILENO, name);
-    io::write_all(STDERR_FILENO, b": ");
+fn begin_line(rt: &HostRuntime, name: &[u8]) {
+    let _ = rt.stderr().write_all(b"load: ");
+    let _ = rt.stderr().write_all(name);
+    let _ = rt.stderr().write_all(b": ");
 }
 
 // Says of a file or a device why nothing is loaded, and answers the exit status.
-pub fn say(name: &[u8], job: Job, t: Turn, why: Failure) -> u32 {
+pub fn say(rt: &HostRuntime, name: &[u8], job: Job, t: Turn, why: Failure) -> u32 {
     let x = t.exchange;
-    begin_line(name);
-    text::write(STDERR_FILENO, messages::message(job, x, why));
-    io::write_all(STDERR_FILENO, b"\n");
+    begin_line(rt, name);
+    let _ = text::write(&mut rt.stderr(), messages::message(job, x, why));
+    let _ = rt.stderr().write_all(b"\n");
     upload::exit_number(why)
 }
 
 // Says why a file cannot be read, as errno does, and answers the exit status of a file.
-pub fn fail(name: &[u8]) -> u32 {
-    begin_line(name);
-    os::fail(b"cannot be read");
+pub fn fail(rt: &HostRuntime, name: &[u8], why: io::Error) -> u32 {
+    begin_line(rt, name);
+    input::fail(rt, &mut rt.stderr(), b"cannot be read", why);
     upload::exit_number(Failure::ProgramLength)
 }

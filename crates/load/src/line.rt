@@ -1,104 +1,132 @@
 // The line: frames are sent, and what comes is told to `upload`.
 use client::Secret;
-use libc::STDERR_FILENO;
+use std::fs::{File, OpenOptions};
+use std::io;
+use std::io::{IsTerminal, Read, Write};
+use std::os::fd::OwnedFd;
+use std::os::unix::net::UnixStream;
+use std::time::{SystemTime, UNIX_EPOCH};
 use upload::{Event, Job, Next, Turn};
 
-// Where bytes come from the head, and where they go to it.
-pub const INPUT: i32 = 4;
+// A serial line: where bytes come from the head, and where they go to it.
+#[derive(Drop)]
+pub struct Line {
+    input: File,
+    output: io::Result<File>,
+}
 
-const OUTPUT: i32 = 5;
+// The line that ./load has opened, if it is one: a read waits a tick, a tenth of a second, for a byte, as the line's mode says.
+pub fn open(rt: &HostRuntime) -> Option<Line> {
+    match input::open_place(rt, 4) {
+        Ok(input) if input.is_terminal() => Some(Line {
+            input,
+            output: open_output(rt),
+        }),
+        _ => None,
+    }
+}
+
+// A write never waits. std sets that mode of sockets alone; one that is made of a copy of the descriptor sets it of what is open there, and
+// is closed again.
+fn open_output(rt: &HostRuntime) -> io::Result<File> {
+    let output = OpenOptions::new().write(true).open(rt, "/proc/self/fd/5")?;
+    let copy = UnixStream::from(OwnedFd::from(output.try_clone()?));
+    copy.set_nonblocking(true)?;
+    Ok(output)
+}
 
 // Sends frames and reads replies until the load is over.
-pub fn converse(program: &[u8], job: Job, secret: Secret) -> Turn {
-    let terminal = libc::isatty(STDERR_FILENO) == 1;
-    let began = now();
+pub fn converse(rt: &HostRuntime, line: &mut Line, program: &[u8], job: Job, secret: Secret) -> Turn {
+    let terminal = rt.stderr().is_terminal();
+    let began = now(rt);
     let mut t = upload::open(job);
     let first = t.next;
     let mut over = upload::is_over(first);
     while !over {
         let x = t.exchange;
         let next = t.next;
-        let event = event(program, job, secret, x.k, next);
+        let event = event(line, program, job, secret, x.k, next);
         let u = upload::advance(job, x, event);
         t = u;
         let next = t.next;
         over = upload::is_over(next);
-        show(terminal, job.len, x.k, next, began);
+        show(rt, terminal, job.len, x.k, next, began);
     }
     t
 }
 
 // Sends frame k, if it is to be sent, and waits for what the line gives.
-fn event(program: &[u8], job: Job, secret: Secret, k: u32, next: Next) -> Event {
+fn event(line: &mut Line, program: &[u8], job: Job, secret: Secret, k: u32, next: Next) -> Event {
     if let Next::Send = next {
-        send(program, job.id, secret, k);
+        send(&mut line.output, program, job.id, secret, k);
     }
-    receive()
+    receive(&mut line.input)
 }
 
 // A frame that cannot be sent gets no answer, or the line is closed: `receive` tells.
-fn send(program: &[u8], id: u8, secret: Secret, k: u32) {
+fn send(output: &mut io::Result<File>, program: &[u8], id: u8, secret: Secret, k: u32) {
     let mut room = [0u8; 129];
     client::make_frame(program, id, secret, k, &mut room);
-    io::write_all(OUTPUT, &room);
+    if let Ok(file) = output {
+        let _ = file.write_all(&room);
+    }
 }
 
 // A read of nothing is a tick of silence, or the end of the line, which then is no terminal any more.
-fn receive() -> Event {
+fn receive(input: &mut File) -> Event {
     let mut byte = [0u8; 1];
-    let got = libc::read(INPUT, &mut byte);
-    if got == 1 {
-        return Event::Byte(byte[0]);
+    match input.read(&mut byte) {
+        Ok(1) => Event::Byte(byte[0]),
+        Ok(_) if input.is_terminal() => Event::Silence,
+        _ => Event::Closed,
     }
-    if got == 0 && libc::isatty(INPUT) == 1 {
-        return Event::Silence;
-    }
-    Event::Closed
 }
 
 // ---- progress
 
 // After the reply to frame k so many blocks are done. The line is ended with the load, if there is one: before the first reply there is not.
-fn show(terminal: bool, len: usize, k: u32, next: Next, began: u64) {
+fn show(rt: &HostRuntime, terminal: bool, len: usize, k: u32, next: Next, began: u64) {
     if !terminal {
         return;
     }
     match next {
         Next::Wait => {}
-        Next::Send => show_progress(len, k, began),
+        Next::Send => show_progress(rt, len, k, began),
         Next::Loaded => {
-            show_progress(len, k, began);
-            io::write_all(STDERR_FILENO, b"\n");
+            show_progress(rt, len, k, began);
+            let _ = rt.stderr().write_all(b"\n");
         }
         Next::Failed(_) => {
             if 0 < k {
-                io::write_all(STDERR_FILENO, b"\n");
+                let _ = rt.stderr().write_all(b"\n");
             }
         }
     }
 }
 
-fn show_progress(len: usize, done: u32, began: u64) {
-    text::write(STDERR_FILENO, messages::progress(len, done, since(began)));
-}
-
-// A number that is not below 0; 0 for one that is.
-fn not_below_zero(n: i64) -> u64 {
-    if n < 0 {
-        return 0;
-    }
-    n as u64
+fn show_progress(rt: &HostRuntime, len: usize, done: u32, began: u64) {
+    let _ = text::write(&mut rt.stderr(), messages::progress(len, done, since(rt, began)));
 }
 
 // In seconds; 0 where the system does not know.
-fn now() -> u64 {
-    let mut t: i64 = 0;
-    not_below_zero(libc::time(&mut t))
+fn now(rt: &HostRuntime) -> u64 {
+    match SystemTime::now(rt) {
+        Ok(t) => seconds(t),
+        Err(_) => 0,
+    }
+}
+
+// The seconds of a time; 0 of one before the count begins.
+fn seconds(t: SystemTime) -> u64 {
+    match t.duration_since(UNIX_EPOCH) {
+        Ok(d) => d.as_secs(),
+        Err(_) => 0,
+    }
 }
 
 // The seconds since a time; 0 where a clock was set back.
-fn since(began: u64) -> u64 {
-    let t = now();
+fn since(rt: &HostRuntime, began: u64) -> u64 {
+    let t = now(rt);
     if t < began {
         return 0;
     }

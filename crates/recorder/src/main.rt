@@ -8,7 +8,7 @@
 mod words;
 
 use handover::Answer;
-use libc::{STDERR_FILENO, STDIN_FILENO, STDOUT_FILENO};
+use std::io;
 
 // What a reset is called with, besides the data.
 #[derive(Clone, Copy)]
@@ -21,29 +21,30 @@ struct Call {
     second: [u8; 32],
 }
 
-fn main() {
-    let number = run();
-    io::print_decimal(3, number as u64);
+fn main(rt: HostRuntime) {
+    let mut place = input::open_number(&rt);
+    let number = run(&rt);
+    input::give_number(&mut place, number);
 }
 
 // Answers the exit status.
-fn run() -> u32 {
-    if os::arg_count() == 2 {
-        return show(read_record());
+fn run(rt: &HostRuntime) -> u32 {
+    if input::is_given(rt, 1) && !input::is_given(rt, 2) {
+        return show(rt, read_record(rt));
     }
-    make(read_call())
+    make(rt, read_call(rt))
 }
 
 // ---- a record made
 
 // One byte more than the most data, so that too much is refused and not cut.
-fn make(call: Call) -> u32 {
+fn make(rt: &HostRuntime, call: Call) -> u32 {
     let mut data = [0u8; 185];
-    let n = io::read_full(STDIN_FILENO, &mut data);
-    reset(call, endian::first(&data, n))
+    let n = input::read_full(&mut rt.stdin(), &mut data);
+    reset(rt, call, endian::first(&data, n))
 }
 
-fn reset(call: Call, data: &[u8]) -> u32 {
+fn reset(rt: &HostRuntime, call: Call, data: &[u8]) -> u32 {
     let mut cdi = call.cdi;
     let seed = call.seed;
     let first = call.first;
@@ -60,24 +61,24 @@ fn reset(call: Call, data: &[u8]) -> u32 {
         &mut record,
     );
     let Answer::Accepted = answer else {
-        return refuse(answer);
+        return refuse(rt, answer);
     };
-    ended(io::write_all(STDOUT_FILENO, &record))
+    ended(rt, rt.stdout().write_all(&record))
 }
 
 // ./record makes no call that is refused.
-fn refuse(answer: Answer) -> u32 {
-    text::write(
-        STDERR_FILENO,
+fn refuse(rt: &HostRuntime, answer: Answer) -> u32 {
+    let _ = text::write(
+        &mut rt.stderr(),
         words::refusal(handover::answer_number(answer)),
     );
     1
 }
 
 // The exit status, by whether all was written.
-fn ended(written: bool) -> u32 {
-    if !written {
-        os::fail(b"record: standard output");
+fn ended(rt: &HostRuntime, written: io::Result<()>) -> u32 {
+    if let Err(why) = written {
+        input::fail(rt, &mut rt.stderr(), b"record: standard output", why);
         return 1;
     }
     0
@@ -85,43 +86,48 @@ fn ended(written: bool) -> u32 {
 
 // ---- a record shown
 
-fn show(bytes: [u8; 256]) -> u32 {
+fn show(rt: &HostRuntime, bytes: [u8; 256]) -> u32 {
+    ended(rt, write_record(rt, bytes))
+}
+
+fn write_record(rt: &HostRuntime, bytes: [u8; 256]) -> io::Result<()> {
     let r = record::read(bytes);
     let digests = r.digests;
-    if !text::write(STDOUT_FILENO, words::lines(r, bytes)) {
-        return ended(false);
-    }
-    ended(text::write(STDOUT_FILENO, words::data_line(bytes, digests.has_second)))
+    text::write(&mut rt.stdout(), words::lines(r, bytes))?;
+    text::write(
+        &mut rt.stdout(),
+        words::data_line(bytes, digests.has_second),
+    )
 }
 
 // ---- standard input; what does not come there is zeros
 
-fn read_record() -> [u8; 256] {
+fn read_record(rt: &HostRuntime) -> [u8; 256] {
     let mut record = [0u8; 256];
-    io::read_full(STDIN_FILENO, &mut record);
+    input::read_full(&mut rt.stdin(), &mut record);
     record
 }
 
-fn read_call() -> Call {
+fn read_call(rt: &HostRuntime) -> Call {
     Call {
-        next_type: read_number(),
-        mask: read_number(),
-        cdi: read_32(),
-        seed: read_32(),
-        first: read_32(),
-        second: read_32(),
+        next_type: read_number(rt),
+        mask: read_number(rt),
+        cdi: read_32(rt),
+        seed: read_32(rt),
+        first: read_32(rt),
+        second: read_32(rt),
     }
 }
 
-fn read_32() -> [u8; 32] {
+fn read_32(rt: &HostRuntime) -> [u8; 32] {
     let mut bytes = [0u8; 32];
-    io::read_full(STDIN_FILENO, &mut bytes);
+    input::read_full(&mut rt.stdin(), &mut bytes);
     bytes
 }
 
 // Four bytes, lowest first.
-fn read_number() -> u32 {
+fn read_number(rt: &HostRuntime) -> u32 {
     let mut b = [0u8; 4];
-    io::read_full(STDIN_FILENO, &mut b);
+    input::read_full(&mut rt.stdin(), &mut b);
     endian::word(b[0], b[1], b[2], b[3])
 }

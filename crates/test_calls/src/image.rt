@@ -1,8 +1,6 @@
 // Numbers as bytes.
 ghost use Rattle.std.specs.Prelude.{◌+◌, ◌≤◌, length};
 
-use libc::STDOUT_FILENO;
-
 // The word at a place.
 pub fn word(c: [u8; 320], at: usize) -> u32
     requires { at + 4 ≤ 320 }
@@ -36,30 +34,31 @@ pub fn part(c: [u8; 320], at: usize) -> [u8; 32]
 
 // ---- what is written
 
-pub fn write(s: &[u8]) {
-    io::write_all(STDOUT_FILENO, s);
+// What cannot be written is lost: there is nobody to tell.
+pub fn write(rt: &impl Print, s: &[u8]) {
+    let _ = rt.write_all(s);
 }
 
-pub fn write_byte(b: u8) {
+pub fn write_byte(rt: &impl Print, b: u8) {
     let one = [b];
-    write(&one);
+    write(rt, &one);
 }
 
-pub fn write_word(n: u32) {
+pub fn write_word(rt: &impl Print, n: u32) {
     let four = [
         endian::byte(n, 0),
         endian::byte(n, 1),
         endian::byte(n, 2),
         endian::byte(n, 3),
     ];
-    write(&four);
+    write(rt, &four);
 }
 
-pub fn write_length(n: usize) {
-    write_word((n % 4294967296) as u32);
-    write_word((n / 4294967296) as u32);
+pub fn write_length(rt: &impl Print, n: usize) {
+    write_word(rt, (n % 4294967296) as u32);
+    write_word(rt, (n / 4294967296) as u32);
 }
 
-pub fn write_bool(b: bool) {
-    write_byte(if b { 1 } else { 0 });
+pub fn write_bool(rt: &impl Print, b: bool) {
+    write_byte(rt, if b { 1 } else { 0 });
 }

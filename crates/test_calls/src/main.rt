@@ -7,28 +7,26 @@ mod hash;
 mod image;
 mod small;
 
-use libc::STDIN_FILENO;
-
-fn main() {
-    let mut left = read_count();
+fn main(rt: HostRuntime) {
+    let mut left = read_count(&rt);
     let mut context = hash::none();
     while 0 < left {
-        let c = read_call();
-        let more = hash::call(context, c);
+        let c = read_call(&rt);
+        let more = hash::call(&rt, context, c);
         context = more;
-        small::call(c);
+        small::call(&rt, c);
         left = left - 1;
     }
 }
 
-fn read_count() -> u32 {
+fn read_count(rt: &HostRuntime) -> u32 {
     let mut b = [0u8; 4];
-    io::read_full(STDIN_FILENO, &mut b);
+    input::read_full(&mut rt.stdin(), &mut b);
     endian::word(b[0], b[1], b[2], b[3])
 }
 
-fn read_call() -> [u8; 320] {
+fn read_call(rt: &HostRuntime) -> [u8; 320] {
     let mut c = [0u8; 320];
-    io::read_full(STDIN_FILENO, &mut c);
+    input::read_full(&mut rt.stdin(), &mut c);
     c
 }
