@@ -13,19 +13,22 @@ from pathlib import Path
 
 TOP = Path(__file__).resolve().parent.parent
 COMMANDS = ("run", "load", "simulate", "digest", "diagnose", "record", "spool")
+PROGRAMS = ("load", "simulate", "digest", "diagnose", "recorder", "spooler")  # besides headlog
 SECONDS = 20
 PIPES = {"stdin": subprocess.DEVNULL, "stdout": subprocess.PIPE, "stderr": subprocess.PIPE}
 NOBODY = ["setpriv", "--reuid", "65534", "--regid", "65534", "--clear-groups"]
 
-# Notes that it was called, and makes a program; with a file `fails` it makes it and then fails.
+# Notes that it was called in a crate's folder, and makes a program there; with a file `fails` it makes it and then fails.
 RT = """#!/bin/sh
-echo "$@" >> calls
+top=$(dirname "$(dirname "$0")")
+name=$(basename "$PWD")
+echo "$@ $name" >> "$top/calls"
 sleep 0.2
-mkdir -p target/bin
-cp program "target/bin/$2"
+mkdir -p out
+cp "$top/program" "out/$name"
 echo log
 echo more >&2
-[ ! -e fails ]
+[ ! -e "$top/fails" ]
 """
 LOG = b"log\nmore\n"
 COPIES_INPUT = "#!/bin/sh\ncat\n"
@@ -41,7 +44,8 @@ class Copy:
 
     def __init__(self, top, program=COPIES_INPUT):
         self.top = top
-        for part in ("sample", "bin", "crates/headlog/src", "crates/framing/src"):
+        crates = [f"crates/{name}" for name in PROGRAMS]
+        for part in ("sample", "bin", "crates/headlog/src", "crates/framing/src", *crates):
             (top / part).mkdir(parents=True)
         shutil.copytree(TOP / "scripts", top / "scripts")
         for file in (*COMMANDS, "sample/session.bin", "crates.txt", "crates/headlog/src/main.rt", "crates/framing/src/lib.rt"):
@@ -74,13 +78,13 @@ class Copy:
         """1, with a word about it, unless each process gives this output, error and status, and rt was called so often since."""
         got = [(*process.communicate(timeout=SECONDS), process.returncode) for process in processes]
         new = self.called()
-        if all(one == wanted for one in got) and new == [f"check {name}"] * calls:
+        if all(one == wanted for one in got) and new == [f"run {name}"] * calls:
             return 0
         print(f"built: {what}: got {got}, calls {new}, expected {wanted} and {calls} calls", file=sys.stderr)
         return 1
 
     def built(self, what, calls, failed=False, at_once=1, name="headlog", meanwhile=lambda: None):
-        wanted = (b"", LOG, 1) if failed else (f"{self.top}/target/bin/{name}\n".encode(), b"", 0)
+        wanted = (b"", LOG, 1) if failed else (f"{self.top}/crates/{name}/out/{name}\n".encode(), b"", 0)
         processes = [self.started("scripts/built", name) for _ in range(at_once)]
         meanwhile()
         return self.wrong(what, wanted, calls, processes, name)
@@ -91,6 +95,11 @@ class Copy:
         while len((self.top / "calls").read_text().splitlines()) == self.calls and time.monotonic() < end:
             time.sleep(0.01)
         time.sleep(0.05)
+
+
+def program(name):
+    """Where scripts/built has a program."""
+    return TOP / "crates" / name / "out" / name
 
 
 def elsewhere(folder, top, name):
@@ -126,7 +135,7 @@ def changes(copy):
     yield copy.built("also for the other program", 1, name="digest")
     (copy.top / "crates.txt").touch()
     yield copy.built("the list of crates changed", 1)
-    (copy.top / "target" / "bin" / "headlog").unlink()
+    (copy.top / "crates" / "headlog" / "out" / "headlog").unlink()
     yield copy.built("no binary", 1)
     (copy.top / "crates.txt").touch()
     fails.touch()

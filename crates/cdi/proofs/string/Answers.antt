@@ -9,18 +9,6 @@ use Rattle.cdi.proofs.Parts.{whole}
 use borrow.Author.Rules.{rules}
 use Rattle.cdi.proofs.string.Goals as goal
 
-pub slice_bounds-copy_from_slice-end-3 : goal.slice_bounds-copy_from_slice-end-3
-slice_bounds-copy_from_slice-end-3 c =
-    let l : length c.copy_from_slice.new.self ≡ 32 = search rules in
-    simp (length-set, length-append) (omega arith)
-
-pub slice_bounds-copy_from_slice-end-4 : goal.slice_bounds-copy_from_slice-end-4
-slice_bounds-copy_from_slice-end-4 c =
-    let b = set (c.copy_from_slice.new.self ++ replicate 65 0) 32 c.args.domain in
-    let l : length c.copy_from_slice.new.self ≡ 32 = search rules in
-    let e : length (put_mid 33 32 b c.copy_from_slice-2.new.self) ≡ length b = same_len_mid 33 32 b c.copy_from_slice-2.new.self (search rules) in
-    rw (e, length-set, length-append) (omega arith)
-
 pub returns : goal.returns
 returns c =
     let a = c.args in
