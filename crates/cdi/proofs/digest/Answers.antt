@@ -3,7 +3,6 @@ use mathlib.Core.Path.{refl, ◌∙◌}
 use native.Mathlib.Omega.{arith}
 use lib.ListN.{replicate}
 use Rattle.blake2s.proofs.Numbers.{digest_32}
-use borrow.Author.Rules.{rules}
 use Rattle.cdi.proofs.digest.Goals as goal
 
 pub returns : goal.returns

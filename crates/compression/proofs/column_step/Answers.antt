@@ -1,5 +1,5 @@
 -- The four mixings are those of the definition, at rows 0 to 3 of the table.
-use Rattle.std.proofs.Common.{refl, ◌∙◌, ltb→lt, rules}
+use Rattle.std.proofs.Common.{refl, ◌∙◌, ltb→lt}
 use Rattle.rfc7693.specs.Rfc7693.{positions, mixing}
 use Rattle.compression.proofs.Steps.{places, mixed}
 use Rattle.compression.proofs.column_step.Goals as goal

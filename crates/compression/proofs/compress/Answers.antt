@@ -1,6 +1,5 @@
 -- The two halves of the vector after the rounds go into the state, as F says.
 use Rattle.compression.proofs.Steps.{next_state}
-use Rattle.std.proofs.Common.{rules}
 use Rattle.compression.proofs.compress.Goals as goal
 
 pub returns : goal.returns

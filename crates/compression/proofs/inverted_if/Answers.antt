@@ -1,5 +1,4 @@
 -- The two arms are those of `cond`.
-use Rattle.std.proofs.Common.{rules}
 use Rattle.compression.proofs.inverted_if.Goals as goal
 
 pub returns-then-last : goal.returns-then-last

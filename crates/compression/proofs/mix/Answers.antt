@@ -1,6 +1,5 @@
 -- The eight steps of the code are those of G.
 use Rattle.rfc7693.specs.Rfc7693.{G}
-use Rattle.std.proofs.Common.{rules}
 use Rattle.compression.proofs.mix.Goals as goal
 
 pub returns : goal.returns

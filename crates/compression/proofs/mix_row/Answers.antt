@@ -1,5 +1,5 @@
 -- The two message words are those that `select` gives, and the row's places are positions of the vector.
-use Rattle.std.proofs.Common.{ltb→lt, rules}
+use Rattle.std.proofs.Common.{ltb→lt}
 use Rattle.compression.proofs.mix_row.Goals as goal
 
 pub mix-requires : goal.mix-requires

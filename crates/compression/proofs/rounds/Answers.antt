@@ -1,5 +1,5 @@
 -- After each two rounds those that are left give what all ten give on the first vector.
-use Rattle.std.proofs.Common.{◌∙◌, rules}
+use Rattle.std.proofs.Common.{◌∙◌}
 use Rattle.rfc7693.specs.Rfc7693.{sigma, rounds}
 use Rattle.compression.proofs.rounds.Goals as goal
 

@@ -1,5 +1,5 @@
 -- Both steps of each round.
-use Rattle.std.proofs.Common.{refl, ◌∙◌, rules}
+use Rattle.std.proofs.Common.{refl, ◌∙◌}
 use Rattle.rfc7693.specs.Rfc7693.{sigma}
 use Rattle.compression.proofs.Steps.{places, rounds_more}
 use Rattle.compression.proofs.rounds_0_1.Goals as goal

@@ -1,5 +1,4 @@
 -- An entry of an order is below sixteen, so `word_at` may be called.
-use Rattle.std.proofs.Common.{rules}
 use Rattle.compression.proofs.select.Goals as goal
 
 pub word_at-requires : goal.word_at-requires

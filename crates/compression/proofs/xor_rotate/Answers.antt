@@ -1,6 +1,5 @@
 -- The code is the definition, with what `rotate_right` ensures.
 use Rattle.rfc7693.specs.Rfc7693.{xor_rotated}
-use Rattle.std.proofs.Common.{rules}
 use Rattle.compression.proofs.xor_rotate.Goals as goal
 
 pub returns : goal.returns

@@ -1,5 +1,4 @@
 -- Each call gives one digest.
-use borrow.Author.Rules.{rules}
 use Rattle.record.proofs.digests_in.Goals as goal
 
 pub returns : goal.returns

@@ -1,5 +1,4 @@
 -- Each arm is a case of the definition.
-use borrow.Author.Rules.{rules}
 use Rattle.record.proofs.digests_of.Goals as goal
 
 pub returns-in-Flash0 : goal.returns-in-Flash0

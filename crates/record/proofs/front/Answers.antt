@@ -1,9 +1,8 @@
 -- What the copy leaves of the zeros.
-use mathlib.Core.Path.{◌≡◌, ap, ◌∙◌}
-use mathlib.Core.List.{List, ◌++◌}
+use mathlib.Core.Path.{◌∙◌}
 use Prim.Native.Nat.{ℕ, ◌+◌, ◌≤◌}
 use native.Mathlib.Omega.{arith}
-use lib.ListN.{length, drop, replicate, length-take, length-replicate}
+use lib.ListN.{length, replicate, length-take, length-replicate}
 use Rattle.endian.proofs.Lists.{put_fits}
 use Rattle.record.proofs.Fields.{filled}
 use Rattle.record.proofs.front.Goals as goal

@@ -1,5 +1,4 @@
 -- The two comparisons are those of the definition.
-use borrow.Author.Rules.{rules}
 use Rattle.record.proofs.one_of.Goals as goal
 
 pub returns : goal.returns

@@ -1,7 +1,6 @@
 -- The calls give the fields; the type and the mask are numbers of four bytes (`word_at`).
 use Rattle.record.specs.Record.{record_at}
 use Rattle.record.proofs.Fields.{word_at}
-use borrow.Author.Rules.{rules}
 use Rattle.record.proofs.read.Goals as goal
 
 pub returns : goal.returns

@@ -1,6 +1,4 @@
 -- Zeros, or the part at 72.
-use borrow.Author.Tests.{not-true, not-false}
-use borrow.Author.Rules.{rules}
 use Rattle.record.proofs.second_in.Goals as goal
 
 pub returns-then-not-has_second : goal.returns-then-not-has_second
