@@ -9,4 +9,4 @@ use Rattle.printer.proofs.turns.act.Goals as goal
 pub returns : goal.returns
 returns c =
     let e = with_line _ _ _ _ c.reply.ensures c.end_line.ensures in
-    (rw (e, c.is_over.ensures) (ap (turn_of _) c.act-r.ensures), ap (λ (o : Outcome). o.ram) c.act-r.ensures)
+    record { turn = rw (e, c.is_over.ensures) (ap (turn_of _) c.act-r.ensures); ram = ap (λ (o : Outcome). o.ram) c.act-r.ensures }

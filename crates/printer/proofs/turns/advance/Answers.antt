@@ -4,7 +4,7 @@ use borrow.Author.Rules.{rules}
 use Rattle.printer.proofs.turns.advance.Goals as goal
 
 pub returns-in-End : goal.returns-in-End
-returns-in-End c = rw c.in-End.is (c.wait.ensures, refl)
+returns-in-End c = rw c.in-End.is (record { turn = c.wait.ensures; ram = refl })
 
 pub returns-in-Byte : goal.returns-in-Byte
 returns-in-Byte c = rw c.in-Byte.is c.receive.ensures

@@ -25,4 +25,4 @@ pub returns : goal.returns
 returns c =
     let a = c.args in
     let b = begun a.front a.ram.now _ c.begin-begun.result _ _ c.words_of-words.ensures c.begin-begun.ensures in
-    (c.without_reply.ensures ∙ b.0, b.1)
+    record { turn = c.without_reply.ensures ∙ b.0; ram = b.1 }

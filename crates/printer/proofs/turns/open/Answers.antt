@@ -11,8 +11,11 @@ pub returns-then-got-lt296 : goal.returns-then-got-lt296
 unfolding opening
 returns-then-got-lt296 c =
     let b = c.begin-t in
-    (rw (lt-ltb _ 296 c.if-got-lt296.true, with_line _ _ [] (error_line 1) c.empty.ensures c.numbered.ensures, b.ensures.0), b.ensures.1)
+    record {
+      turn = rw (lt-ltb _ 296 c.if-got-lt296.true, with_line _ _ [] (error_line 1) c.empty.ensures c.numbered.ensures, b.ensures.turn);
+      ram = b.ensures.ram;
+    }
 
 pub returns : goal.returns
 unfolding opening
-returns c = let b = c.begin-t in (rw (le-ltb _ 296 c.if-got-lt296.false) b.ensures.0, b.ensures.1)
+returns c = let b = c.begin-t in record { turn = rw (le-ltb _ 296 c.if-got-lt296.false) b.ensures.turn; ram = b.ensures.ram }
