@@ -1,7 +1,5 @@
 -- The digits of the tenth, and one more.
-use Rattle.std.proofs.Common.{◌≡◌, ℕ, ◌<◌, ◌^◌}
-use Rattle.text.specs.Text.{decimal_in, added}
-use Rattle.text.proofs.Decimals.{one_digit, one_more}
+use Rattle.text.proofs.Decimals.{one_more}
 use Rattle.text.proofs.+put_digits.Goals as goal
 
 pub returns : goal.returns

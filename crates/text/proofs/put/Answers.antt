@@ -1,7 +1,6 @@
 -- The test is the definition's.
 use Prim.Native.Nat.{◌<◌, ◌≤◌}
 use native.Mathlib.Omega.{arith}
-use borrow.Author.Rules.{rules}
 use borrow.Author.Tests.{lt-ltb, le-ltb}
 use Rattle.text.specs.Text.{with_byte, added}
 use Rattle.text.proofs.put.Goals as goal

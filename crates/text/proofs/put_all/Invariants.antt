@@ -1,12 +1,8 @@
 -- What is left, behind what is there, is the whole.
 use Prim.Native.Nat.{◌-◌, ◌≤◌}
-use native.Mathlib.Omega.{arith}
-use mathlib.Core.Path.{◌≡◌, refl, ◌∙◌}
+use mathlib.Core.Path.{◌≡◌}
 use lib.ListN.{length, drop}
-use lib.Seq.{drop-length}
 use Rattle.text.specs.Text.{added}
-use Rattle.text.proofs.Texts.{next}
-use borrow.Author.Rules.{rules}
 use Rattle.text.proofs.put_all.Given as goal
 
 abbrev pub invariant-loop-i : goal.invariant-loop-i

@@ -1,5 +1,4 @@
 -- A digit, and one more.
-use borrow.Author.Rules.{rules}
 use Rattle.text.specs.Text.{added}
 use Rattle.text.proofs.put_byte.Goals as goal
 

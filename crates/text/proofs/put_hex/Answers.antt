@@ -1,9 +1,8 @@
-use Prim.Native.Nat.{◌-◌, ◌≤◌}
 use native.Mathlib.Omega.{arith}
 use mathlib.Core.Path.{◌≡◌, refl, ◌∙◌}
-use lib.ListN.{length, drop}
+use lib.ListN.{length}
 use lib.Seq.{drop-length}
-use Rattle.text.specs.Text.{hex_of, added}
+use Rattle.text.specs.Text.{added}
 use Rattle.text.proofs.Texts.{next_hex}
 use borrow.Author.Rules.{rules}
 use Rattle.text.proofs.put_hex.Goals as goal

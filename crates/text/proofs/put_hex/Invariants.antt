@@ -1,12 +1,8 @@
 -- The digits of what is left, behind what is there, are the whole.
 use Prim.Native.Nat.{◌-◌, ◌≤◌}
-use native.Mathlib.Omega.{arith}
-use mathlib.Core.Path.{◌≡◌, refl, ◌∙◌}
+use mathlib.Core.Path.{◌≡◌}
 use lib.ListN.{length, drop}
-use lib.Seq.{drop-length}
 use Rattle.text.specs.Text.{hex_of, added}
-use Rattle.text.proofs.Texts.{next_hex}
-use borrow.Author.Rules.{rules}
 use Rattle.text.proofs.put_hex.Given as goal
 
 abbrev pub invariant-loop-i : goal.invariant-loop-i

@@ -1,7 +1,5 @@
-use Prim.Native.Nat.{◌-◌}
 use native.Mathlib.Omega.{arith}
 use mathlib.Core.Path.{◌≡◌, refl, ◌∙◌}
-use lib.ListN.{replicate}
 use Rattle.text.specs.Text.{added}
 use Rattle.text.proofs.Texts.{one_of_exactly}
 use borrow.Author.Rules.{rules}

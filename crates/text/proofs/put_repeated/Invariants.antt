@@ -1,11 +1,7 @@
 -- What is left, behind what is there, is the whole.
-use Prim.Native.Nat.{◌-◌}
-use native.Mathlib.Omega.{arith}
-use mathlib.Core.Path.{◌≡◌, refl, ◌∙◌}
+use mathlib.Core.Path.{◌≡◌}
 use lib.ListN.{replicate}
 use Rattle.text.specs.Text.{added}
-use Rattle.text.proofs.Texts.{one_of_exactly}
-use borrow.Author.Rules.{rules}
 use Rattle.text.proofs.put_repeated.Given as goal
 
 abbrev pub invariant-loop-left : goal.invariant-loop-left
