@@ -1,10 +1,9 @@
 -- Each return has the number that the tests before it leave.
 use mathlib.Core.Path.{◌≡◌, sym, ◌∙◌}
 use mathlib.Core.Bool.{true}
-use borrow.Author.Tests.{eq-eqb, ne_eqb, lt-ltb, le-ltb, not-true, not-false}
+use borrow.Author.Tests.{eq-eqb, ne_eqb, lt-ltb, le-ltb}
 use Rattle.head.specs.State.{is_whole, in_range, live}
 use Rattle.head.specs.Act.{act_refusal}
-use borrow.Author.Rules.{rules}
 use Rattle.head.proofs.admit_act.Goals as goal
 
 pub returns-then-not-in_range : goal.returns-then-not-in_range

@@ -1,6 +1,5 @@
 -- Each return has the number that the tests before it leave.
-use borrow.Author.Tests.{eq-eqb, ne_eqb, not-true, not-false}
-use borrow.Author.Rules.{rules}
+use borrow.Author.Tests.{eq-eqb, ne_eqb}
 use Rattle.head.proofs.admit_begin.Goals as goal
 
 pub returns-then-uds-ne8 : goal.returns-then-uds-ne8

@@ -1,10 +1,8 @@
 -- Each return has the number that the tests before it leave.
 use mathlib.Core.Path.{◌≡◌, sym, ◌∙◌}
 use mathlib.Core.Bool.{true}
-use borrow.Author.Tests.{not-true, not-false}
 use Rattle.head.specs.State.{in_range, live}
 use Rattle.head.specs.Gather.{gather_refusal}
-use borrow.Author.Rules.{rules}
 use Rattle.head.proofs.admit_gather.Goals as goal
 
 pub returns-then-not-in_range : goal.returns-then-not-in_range

@@ -1,5 +1,4 @@
 -- The phase decides.
-use borrow.Author.Rules.{rules}
 use Rattle.head.proofs.commands.action_in.Goals as goal
 
 pub returns-in-Waiting : goal.returns-in-Waiting

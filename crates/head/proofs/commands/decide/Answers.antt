@@ -1,5 +1,4 @@
 -- The command is the body's first byte.
-use borrow.Author.Rules.{rules}
 use Rattle.head.proofs.commands.decide.Goals as goal
 
 pub returns : goal.returns

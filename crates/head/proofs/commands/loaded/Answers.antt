@@ -1,5 +1,4 @@
 -- By the fields of the load.
-use borrow.Author.Rules.{rules}
 use Rattle.head.proofs.commands.loaded.Goals as goal
 
 pub returns : goal.returns

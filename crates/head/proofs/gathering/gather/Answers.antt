@@ -5,7 +5,6 @@ use Rattle.head.specs.Gather.{gather_refusal}
 use Rattle.head.specs.declared.Admission.{Admission}
 use Rattle.head.proofs.Ranges.{range_facts}
 use Rattle.head.proofs.Admitted.{gather_refused_as, gather_admitted_as, gather_admitted}
-use borrow.Author.Rules.{rules}
 use Rattle.head.proofs.gathering.gather.Goals as goal
 
 pub take-requires : goal.take-requires

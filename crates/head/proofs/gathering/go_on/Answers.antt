@@ -1,5 +1,4 @@
 -- The answer says whether the frame is whole.
-use borrow.Author.Rules.{rules}
 use Rattle.head.proofs.gathering.go_on.Goals as goal
 
 pub returns-then-is_whole : goal.returns-then-is_whole

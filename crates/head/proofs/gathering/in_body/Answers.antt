@@ -1,6 +1,5 @@
 -- The tests are those of the definition.
 use borrow.Author.Tests.{eq-eqb, ne_eqb}
-use borrow.Author.Rules.{rules}
 use Rattle.head.proofs.gathering.in_body.Goals as goal
 
 pub returns-then-endpoint-eq2 : goal.returns-then-endpoint-eq2

@@ -1,5 +1,4 @@
 -- The header as it is read decides.
-use borrow.Author.Rules.{rules}
 use Rattle.head.proofs.gathering.open.Goals as goal
 
 pub returns-in-Good : goal.returns-in-Good

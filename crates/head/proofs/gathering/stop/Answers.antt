@@ -1,5 +1,4 @@
 -- The state is the one of an end.
-use borrow.Author.Rules.{rules}
 use Rattle.head.proofs.gathering.stop.Goals as goal
 
 pub returns : goal.returns

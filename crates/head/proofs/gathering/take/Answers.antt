@@ -2,7 +2,6 @@
 use borrow.Author.Tests.{eq-eqb, ne_eqb}
 use Rattle.head.specs.Gather.{byte_step}
 use Rattle.head.proofs.Ranges.{incoming_got}
-use borrow.Author.Rules.{rules}
 use Rattle.head.proofs.gathering.take.Goals as goal
 
 pub returns-then-i-eq0 : goal.returns-then-i-eq0

@@ -1,5 +1,4 @@
 -- By computation, from what the record's functions give.
-use borrow.Author.Rules.{rules}
 use Rattle.head.proofs.states.config_of.Goals as goal
 
 pub returns : goal.returns

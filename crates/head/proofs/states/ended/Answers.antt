@@ -1,6 +1,5 @@
 -- By computation.
 use Rattle.head.specs.State.{ended}
-use borrow.Author.Rules.{rules}
 use Rattle.head.proofs.states.ended.Goals as goal
 
 pub returns : goal.returns

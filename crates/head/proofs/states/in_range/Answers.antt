@@ -1,7 +1,5 @@
 -- Each test is one part of the range.
 use Rattle.head.specs.State.{in_range}
-use borrow.Author.Tests.{not-true, not-false}
-use borrow.Author.Rules.{rules}
 use Rattle.head.proofs.states.in_range.Goals as goal
 
 pub returns-then-not-length_ok : goal.returns-then-not-length_ok

@@ -1,7 +1,6 @@
 -- The header decides; where it is good, endpoint and count are tested.
 use mathlib.Core.Path.{sym, ◌∙◌}
-use borrow.Author.Tests.{eq-eqb, ne_eqb, not-true, not-false}
-use borrow.Author.Rules.{rules}
+use borrow.Author.Tests.{eq-eqb, ne_eqb}
 use Rattle.framing.proofs.Headers.{good_at, bad_at}
 use Rattle.head.proofs.states.is_whole.Goals as goal
 

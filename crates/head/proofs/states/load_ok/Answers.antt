@@ -5,7 +5,6 @@ use mathlib.Core.Bool.{Bool, true, false}
 use native.Mathlib.Omega.{arith}
 use lib.Dec.{ltb}
 use borrow.Author.Tests.{lt-leb, le-leb, lt-ltb, le-ltb, ltb-true, ltb-false}
-use borrow.Author.Rules.{rules}
 use Rattle.protocol.specs.Commands.{blocks_for}
 use Rattle.head.proofs.states.load_ok.Goals as goal
 

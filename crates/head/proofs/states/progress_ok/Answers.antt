@@ -1,5 +1,4 @@
 -- Only while loading is anything tested.
-use borrow.Author.Rules.{rules}
 use Rattle.head.proofs.states.progress_ok.Goals as goal
 
 pub returns-in-Loading : goal.returns-in-Loading
