@@ -1,5 +1,4 @@
 -- The reply is put in the room, and the state is the one between frames.
-use borrow.Author.Rules.{rules}
 use Rattle.loader.proofs.acting.answer.Goals as goal
 
 pub returns : goal.returns

@@ -1,5 +1,4 @@
 -- The state after a stop.
-use borrow.Author.Rules.{rules}
 use Rattle.loader.proofs.acting.stop.Goals as goal
 
 pub returns : goal.returns

@@ -1,5 +1,4 @@
 -- The front of the slot that was chosen.
-use borrow.Author.Rules.{rules}
 use Rattle.loader.proofs.flash.front.Goals as goal
 
 pub returns-then-second : goal.returns-then-second

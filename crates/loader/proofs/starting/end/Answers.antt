@@ -1,5 +1,4 @@
 -- By computation.
-use borrow.Author.Rules.{rules}
 use Rattle.loader.proofs.starting.end.Goals as goal
 
 pub returns : goal.returns

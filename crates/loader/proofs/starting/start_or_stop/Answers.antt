@@ -1,6 +1,5 @@
 -- What is allowed starts, and the other way ends.
 use Rattle.head.specs.Start.{decided}
-use borrow.Author.Rules.{rules}
 use Rattle.loader.proofs.starting.start_or_stop.Goals as goal
 
 pub returns-then-allowed : goal.returns-then-allowed
