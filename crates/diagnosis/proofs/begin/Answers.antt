@@ -1,13 +1,12 @@
 -- The tests are those of the definition; then where the program comes from (`from`) says which case it is.
 use mathlib.Core.Path.{◌≡◌, sym, ap, ◌∙◌}
-use borrow.Author.Tests.{eq-eqb, ne_eqb, not-true, not-false}
+use borrow.Author.Tests.{eq-eqb, ne_eqb}
 use Rattle.record.specs.Record.{record_of, record_at}
 use Rattle.record.specs.Types.{source_at}
 use Rattle.record.specs.declared.Place.{Place}
 use Rattle.record.proofs.Fields.{whole_front}
 use Rattle.diagnosis.specs.Monitor.{begun, by_source}
 use Rattle.diagnosis.proofs.Steps.{begun_as}
-use borrow.Author.Rules.{rules}
 use Rattle.diagnosis.proofs.begin.Goals as goal
 
 pub returns-then-record-ne256 : goal.returns-then-record-ne256

@@ -6,7 +6,6 @@ use lib.ListN.{length}
 use Rattle.diagnosis.specs.Monitor.{heard, has_room, explained, diagnosis}
 use Rattle.diagnosis.specs.declared.Monitor.{Monitor}
 use Rattle.diagnosis.proofs.Walk.{room_first}
-use borrow.Author.Rules.{rules}
 use Rattle.diagnosis.proofs.diagnose.Goals as goal
 
 pub hear_all-requires : goal.hear_all-requires

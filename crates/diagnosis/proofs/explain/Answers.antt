@@ -1,6 +1,5 @@
 -- The verdict says which case of the definition it is.
 use Rattle.diagnosis.specs.Monitor.{explained}
-use borrow.Author.Rules.{rules}
 use Rattle.diagnosis.proofs.explain.Goals as goal
 
 pub returns-in-Open : goal.returns-in-Open

@@ -1,5 +1,4 @@
 -- The finding says which case of the definition it is.
-use borrow.Author.Rules.{rules}
 use Rattle.diagnosis.proofs.finding_number.Goals as goal
 
 pub returns-in-Refused : goal.returns-in-Refused

@@ -6,7 +6,6 @@ use mathlib.Core.List.{List}
 use Rattle.diagnosis.specs.Reasons.{number_of, Explained}
 use Rattle.diagnosis.specs.Monitor.{diagnosis}
 use Rattle.diagnosis.specs.Calls.{is_refused, counts_in, diagnose_told, after_diagnose, diagnose_call}
-use borrow.Author.Rules.{rules}
 use Rattle.diagnosis.proofs.mastfrap_diagnose.Goals as goal
 
 module _ (rec : List ℕ) (m : ℕ) (bytes counts digest : List ℕ) (x : Explained) (e : x ≡ diagnosis rec m bytes) where

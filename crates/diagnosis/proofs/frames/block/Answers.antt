@@ -4,7 +4,6 @@ use mathlib.Core.Path.{◌∙◌}
 use native.Mathlib.Omega.{arith}
 use Rattle.head.proofs.Ranges.{loading_facts}
 use Rattle.diagnosis.specs.Monitor.{block_heard}
-use borrow.Author.Rules.{rules}
 use Rattle.diagnosis.proofs.frames.block.Goals as goal
 
 pub returns-then-is_last : goal.returns-then-is_last

@@ -2,9 +2,7 @@
 use Prim.Native.Nat.{◌+◌, ◌-◌}
 use mathlib.Core.Path.{◌≡◌, ◌∙◌}
 use native.Mathlib.Omega.{arith}
-use lib.ListN.{length}
 use Rattle.protocol.specs.Commands.{count_in}
-use borrow.Author.Rules.{rules}
 use Rattle.diagnosis.proofs.frames.carried.Goals as goal
 
 pub returns : goal.returns

@@ -1,6 +1,5 @@
 -- By computation.
 use Rattle.diagnosis.specs.Monitor.{closed}
-use borrow.Author.Rules.{rules}
 use Rattle.diagnosis.proofs.frames.closed.Goals as goal
 
 pub returns : goal.returns

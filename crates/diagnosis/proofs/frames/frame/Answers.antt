@@ -4,7 +4,6 @@ use Rattle.head.specs.Act.{request_of}
 use Rattle.head.specs.Steps.{request_for}
 use Rattle.head.specs.declared.Action.{Action}
 use Rattle.head.proofs.Ranges.{block_loading}
-use borrow.Author.Rules.{rules}
 use Rattle.diagnosis.proofs.frames.frame.Goals as goal
 
 pub block-requires : goal.block-requires

@@ -1,5 +1,4 @@
 -- The test is that of the definition.
-use borrow.Author.Rules.{rules}
 use Rattle.diagnosis.proofs.frames.judge.Goals as goal
 
 pub returns-then-allowed : goal.returns-then-allowed

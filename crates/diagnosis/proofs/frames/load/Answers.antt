@@ -1,7 +1,6 @@
 -- The load is read and tested as the definition does it (`load-taken`, `load-left`).
 use mathlib.Core.Path.{◌∙◌}
 use Rattle.diagnosis.proofs.Steps.{load_taken, load_left}
-use borrow.Author.Rules.{rules}
 use Rattle.diagnosis.proofs.frames.load.Goals as goal
 
 pub returns-then-load_is_good : goal.returns-then-load_is_good

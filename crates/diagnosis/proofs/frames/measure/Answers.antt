@@ -1,5 +1,4 @@
 -- The digest is what finish writes.
-use borrow.Author.Rules.{rules}
 use Rattle.diagnosis.proofs.frames.measure.Goals as goal
 
 pub returns : goal.returns

@@ -1,5 +1,4 @@
 -- By computation.
-use borrow.Author.Rules.{rules}
 use Rattle.diagnosis.proofs.frames.onward.Goals as goal
 
 pub returns : goal.returns

@@ -1,6 +1,5 @@
 -- By computation.
 use Rattle.diagnosis.specs.Monitor.{opened}
-use borrow.Author.Rules.{rules}
 use Rattle.diagnosis.proofs.frames.opened.Goals as goal
 
 pub returns : goal.returns

@@ -1,5 +1,4 @@
 -- As onward.
-use borrow.Author.Rules.{rules}
 use Rattle.diagnosis.proofs.frames.query.Goals as goal
 
 pub returns : goal.returns

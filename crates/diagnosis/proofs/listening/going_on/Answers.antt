@@ -1,6 +1,5 @@
 -- An unfinished frame first; then the phase says which case of the definition it is.
 use borrow.Author.Tests.{eq-eqb, ne_eqb}
-use borrow.Author.Rules.{rules}
 use Rattle.diagnosis.proofs.listening.going_on.Goals as goal
 
 pub returns-then-s-ne0 : goal.returns-then-s-ne0

@@ -5,7 +5,6 @@ use mathlib.Core.Path.{◌≡◌, refl}
 use native.Mathlib.Omega.{arith}
 use lib.Dec.{leb, ltb}
 use borrow.Author.Tests.{leb-true, leb-false, lt-ltb, le-ltb}
-use borrow.Author.Rules.{rules}
 use Rattle.diagnosis.proofs.listening.has_room.Goals as goal
 
 within : (k n : ℕ) → n < 2 ^ 64 → leb k (2 ^ 64 - 1 - n) ≡ ltb (k + n) (2 ^ 64)

@@ -1,8 +1,6 @@
 -- The test is that of the definition.
 use mathlib.Core.Path.{sym, ◌∙◌}
-use borrow.Author.Tests.{not-true, not-false}
 use Rattle.diagnosis.specs.Monitor.{has_room, heard_part}
-use borrow.Author.Rules.{rules}
 use Rattle.diagnosis.proofs.listening.hear.Goals as goal
 
 pub returns-then-not-has_room : goal.returns-then-not-has_room

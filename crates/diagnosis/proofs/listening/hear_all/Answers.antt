@@ -1,9 +1,6 @@
-use Prim.Native.Nat.{◌-◌}
 use mathlib.Core.Path.{sym, ◌∙◌}
 use native.Mathlib.Omega.{arith}
-use lib.ListN.{length}
-use Rattle.diagnosis.proofs.Walk.{Going, going_first, going_more, heard_ended, heard_all}
-use borrow.Author.Rules.{rules}
+use Rattle.diagnosis.proofs.Walk.{going_first, going_more, heard_ended, heard_all}
 use Rattle.diagnosis.proofs.listening.hear_all.Goals as goal
 
 pub loop-i-init : goal.loop-i-init

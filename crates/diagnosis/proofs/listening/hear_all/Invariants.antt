@@ -1,10 +1,7 @@
 -- What is left, heard from here, is the whole (`Going`).
 use Prim.Native.Nat.{◌-◌}
-use mathlib.Core.Path.{sym, ◌∙◌}
-use native.Mathlib.Omega.{arith}
 use lib.ListN.{length}
-use Rattle.diagnosis.proofs.Walk.{Going, going_first, going_more, heard_ended, heard_all}
-use borrow.Author.Rules.{rules}
+use Rattle.diagnosis.proofs.Walk.{Going}
 use Rattle.diagnosis.proofs.listening.hear_all.Given as goal
 
 abbrev pub invariant-loop-i : goal.invariant-loop-i

@@ -1,6 +1,5 @@
 -- What gathering the byte answers says which case of the definition it is (`heard-as`).
 use mathlib.Core.Path.{◌≡◌, sym, ap, ◌∙◌}
-use borrow.Author.Tests.{not-true, not-false}
 use Rattle.head.specs.Act.{request_of}
 use Rattle.head.specs.Answers.{report_of}
 use Rattle.head.specs.declared.Answer.{Answer}
@@ -9,7 +8,6 @@ use Rattle.diagnosis.specs.Monitor.{ruled, frame_heard, by_report, heard_byte}
 use Rattle.diagnosis.specs.declared.Monitor.{Monitor}
 use Rattle.diagnosis.specs.declared.Verdict.TheVariants.{Stopped}
 use Rattle.diagnosis.proofs.Steps.{heard_as, whole_ready}
-use borrow.Author.Rules.{rules}
 use Rattle.diagnosis.proofs.listening.hear_byte.Goals as goal
 
 pub returns-then-not-is_open : goal.returns-then-not-is_open

@@ -1,5 +1,4 @@
 -- The position is the one after the byte.
-use borrow.Author.Rules.{rules}
 use Rattle.diagnosis.proofs.listening.moved.Goals as goal
 
 pub returns : goal.returns
