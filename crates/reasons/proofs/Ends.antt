@@ -9,11 +9,9 @@ use Rattle.endian.specs.Lists.{All, zeros}
 use Rattle.endian.proofs.Cases.{impossible}
 use Rattle.head.specs.Answers.{continues, whole, Outcome}
 use Rattle.head.specs.Answers as head
-use Rattle.head.specs.Begin.{waiting}
 use Rattle.head.specs.declared.State.{State}
 use Rattle.session.specs.Reading.{Good, digest_of, own, Loads, needed, Starting}
 use Rattle.session.specs.Session.{Loan, Entry, gathers, acts, report_in, Among, is_accepted, accepted}
-use Rattle.session.proofs.Calls.{unfinished}
 use Rattle.session.proofs.Entries.{among_later, among_cases, among_none}
 use Rattle.session.proofs.Walk.{Answered}
 use Rattle.diagnosis.specs.Reasons.{Reason, stopped, missing, started}
