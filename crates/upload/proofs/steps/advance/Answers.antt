@@ -1,5 +1,4 @@
 -- Each event has its function.
-use borrow.Author.Rules.{rules}
 use Rattle.upload.proofs.steps.advance.Goals as goal
 
 pub returns-in-Byte : goal.returns-in-Byte

@@ -1,6 +1,4 @@
 -- The test is the definition's.
-use borrow.Author.Rules.{rules}
-use borrow.Author.Tests.{not-true, not-false}
 use Rattle.upload.proofs.steps.check_digest.Goals as goal
 
 pub returns-then-not-equal : goal.returns-then-not-equal

@@ -1,6 +1,5 @@
 -- The digest is what the hash leaves.
 use Rattle.upload.specs.Upload.{job_of}
-use borrow.Author.Rules.{rules}
 use Rattle.upload.proofs.steps.job_of.Goals as goal
 
 pub returns : goal.returns

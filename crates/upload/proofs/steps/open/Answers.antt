@@ -1,6 +1,5 @@
 -- The tests are the definition's.
-use borrow.Author.Rules.{rules}
-use borrow.Author.Tests.{lt-ltb, le-ltb, not-true, not-false}
+use borrow.Author.Tests.{lt-ltb, le-ltb}
 use Rattle.upload.specs.Upload.{opening}
 use Rattle.upload.proofs.steps.open.Goals as goal
 

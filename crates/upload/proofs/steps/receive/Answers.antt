@@ -1,7 +1,6 @@
 -- The tests are the definition's; there is room for a byte behind at most 128.
 use Prim.Native.Nat.{◌+◌, ◌≤◌, ◌<◌}
 use native.Mathlib.Omega.{arith}
-use borrow.Author.Rules.{rules}
 use borrow.Author.Tests.{lt-ltb, le-ltb}
 use Rattle.upload.specs.Upload.{received}
 use Rattle.upload.proofs.steps.receive.Goals as goal

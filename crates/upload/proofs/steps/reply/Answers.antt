@@ -9,7 +9,6 @@ use Rattle.client.specs.Answers.{number_of}
 use Rattle.client.proofs.Numbers.{refused_number}
 use Rattle.upload.specs.Upload.{replied, came_of}
 use Rattle.upload.proofs.Replies.{taken_given, last_turn}
-use borrow.Author.Rules.{rules}
 use Rattle.upload.proofs.steps.reply.Goals as goal
 
 pub returns-in_default : goal.returns-in_default

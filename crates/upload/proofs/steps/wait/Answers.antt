@@ -1,5 +1,4 @@
 -- The test is the definition's.
-use borrow.Author.Rules.{rules}
 use borrow.Author.Tests.{le-leb, lt-leb}
 use Rattle.upload.specs.Upload.{silent}
 use Rattle.upload.proofs.steps.wait.Goals as goal
