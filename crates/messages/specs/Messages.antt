@@ -1,5 +1,5 @@
 -- The words of `./load`, in ASCII. A line of a failure is `load: `, the name of the file or the device, `: ` and one of the messages.
-use Rattle.std.specs.Prelude.{ℕ, ◌-◌, ◌*◌, ◌/◌, ◌%◌, min, not, cond, List, [], ◌∷◌, ◌++◌, eqb, replicate}
+use Rattle.std.specs.Prelude.{ℕ, ◌-◌, ◌*◌, ◌/◌, ◌%◌, min, cond, List, [], ◌∷◌, ◌++◌, eqb, replicate}
 use Rattle.text.specs.Text.{ascii, hex_of, decimal_of}
 use Rattle.protocol.specs.Commands.{length_ok, blocks_for, place_of}
 use Rattle.client.specs.Replies.{taking, differing}

@@ -1,6 +1,5 @@
 -- By the rest of the division.
 use native.Mathlib.Omega.{arith}
-use borrow.Author.Rules.{rules}
 use Rattle.messages.proofs.blocks.Goals as goal
 
 pub returns-then-len-eq0 : goal.returns-then-len-eq0

@@ -1,6 +1,5 @@
 -- Part by part, in an empty text.
 use Rattle.text.proofs.Texts.{then, from_empty}
-use borrow.Author.Rules.{rules}
 use Rattle.messages.proofs.loaded.Goals as goal
 
 pub returns : goal.returns

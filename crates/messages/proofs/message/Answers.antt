@@ -1,6 +1,5 @@
 -- Each has its words, in an empty text.
 use Rattle.text.proofs.Texts.{from_empty}
-use borrow.Author.Rules.{rules}
 use Rattle.messages.proofs.message.Goals as goal
 
 pub returns-in-ProgramLength : goal.returns-in-ProgramLength

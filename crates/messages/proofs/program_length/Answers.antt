@@ -1,6 +1,5 @@
 -- Each has its words.
 use borrow.Author.Tests.{eq-eqb, ne_eqb}
-use borrow.Author.Rules.{rules}
 use Rattle.messages.proofs.program_length.Goals as goal
 
 pub returns-then-job-eq0 : goal.returns-then-job-eq0

@@ -1,11 +1,9 @@
 -- In an empty text, if the program can be one.
 use Rattle.text.proofs.Texts.{from_empty}
-use borrow.Author.Tests.{not-true, not-false}
 use mathlib.Core.Path.{sym, ◌∙◌}
 use Rattle.upload.proofs.Replies.{length_ok_bounds}
 use native.Mathlib.Omega.{arith}
 use Rattle.messages.specs.Messages.{progress_line}
-use borrow.Author.Rules.{rules}
 use Rattle.messages.proofs.progress.Goals as goal
 
 pub returns-then-not-length_ok : goal.returns-then-not-length_ok

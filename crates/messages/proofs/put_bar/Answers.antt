@@ -3,7 +3,6 @@ use Prim.Native.Nat.{◌-◌}
 use mathlib.Core.Path.{◌≡◌}
 use native.Mathlib.Omega.{arith}
 use Rattle.text.proofs.Texts.{then}
-use borrow.Author.Rules.{rules}
 use Rattle.messages.proofs.put_bar.Goals as goal
 
 pub overflow_sub-least : goal.overflow_sub-least

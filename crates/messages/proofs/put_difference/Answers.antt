@@ -1,5 +1,4 @@
 -- Each has its word.
-use borrow.Author.Rules.{rules}
 use Rattle.messages.proofs.put_difference.Goals as goal
 
 pub returns-in-Nothing : goal.returns-in-Nothing

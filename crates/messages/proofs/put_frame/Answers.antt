@@ -2,7 +2,6 @@
 use Rattle.text.proofs.Texts.{then}
 use borrow.Author.Tests.{eq-eqb, ne_eqb}
 use Rattle.messages.specs.Messages.{frame_name}
-use borrow.Author.Rules.{rules}
 use Rattle.messages.proofs.put_frame.Goals as goal
 
 pub returns-then-k-eq0 : goal.returns-then-k-eq0

@@ -2,7 +2,6 @@
 use Rattle.text.proofs.Texts.{then}
 use borrow.Author.Tests.{eq-eqb, ne_eqb}
 use Rattle.text.proofs.Texts.{nothing}
-use borrow.Author.Rules.{rules}
 use Rattle.messages.proofs.put_rate.Goals as goal
 
 pub returns-then-seconds-eq0 : goal.returns-then-seconds-eq0

@@ -1,7 +1,6 @@
 -- Part by part.
 use Rattle.text.proofs.Texts.{then}
 use borrow.Author.Tests.{eq-eqb, ne_eqb}
-use borrow.Author.Rules.{rules}
 use Rattle.messages.proofs.put_seconds.Goals as goal
 
 pub returns-then-ticks-eq0 : goal.returns-then-ticks-eq0

@@ -1,7 +1,6 @@
 -- Part by part.
 use Rattle.text.proofs.Texts.{then}
 use borrow.Author.Tests.{eq-eqb, ne_eqb}
-use borrow.Author.Rules.{rules}
 use Rattle.messages.proofs.refused_frame.Goals as goal
 
 pub returns-then-x-eq0 : goal.returns-then-x-eq0

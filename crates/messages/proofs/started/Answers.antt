@@ -1,6 +1,5 @@
 -- Words in an empty text.
 use Rattle.text.proofs.Texts.{from_empty}
-use borrow.Author.Rules.{rules}
 use Rattle.messages.proofs.started.Goals as goal
 
 pub returns : goal.returns
