@@ -1,6 +1,5 @@
 -- By whether it is a terminal.
 use Rattle.text.proofs.Texts.{behind}
-use borrow.Author.Rules.{rules}
 use Rattle.display.proofs.all_blocks.Goals as goal
 
 pub returns-then-terminal : goal.returns-then-terminal

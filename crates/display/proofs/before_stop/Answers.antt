@@ -1,7 +1,6 @@
 -- Stop 25 is by its number.
 use mathlib.Core.Path.{sym, ◌∙◌}
 use borrow.Author.Tests.{eq-eqb, ne_eqb}
-use borrow.Author.Rules.{rules}
 use Rattle.display.proofs.before_stop.Goals as goal
 
 pub returns-then-stop_number-eq25 : goal.returns-then-stop_number-eq25

@@ -1,6 +1,5 @@
 -- Each answer has its line.
 use Rattle.text.proofs.Texts.{behind}
-use borrow.Author.Rules.{rules}
 use Rattle.display.proofs.begun.Goals as goal
 
 pub returns-in-Continue : goal.returns-in-Continue

@@ -1,6 +1,5 @@
 -- The parts, one behind the other.
 use Rattle.text.proofs.Texts.{behind}
-use borrow.Author.Rules.{rules}
 use Rattle.display.proofs.block_text.Goals as goal
 
 pub returns : goal.returns

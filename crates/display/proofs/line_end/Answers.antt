@@ -1,7 +1,6 @@
 -- By whether a block has come.
 use Rattle.text.proofs.Texts.{behind}
 use borrow.Author.Tests.{eq-eqb, ne_eqb}
-use borrow.Author.Rules.{rules}
 use Rattle.display.proofs.line_end.Goals as goal
 
 pub returns-then-k-eq0 : goal.returns-then-k-eq0

@@ -1,6 +1,5 @@
 -- By what is new.
 use borrow.Author.Tests.{eq-eqb, ne_eqb}
-use borrow.Author.Rules.{rules}
 use Rattle.display.proofs.progress_text.Goals as goal
 
 pub returns-then-before-after : goal.returns-then-before-after

@@ -1,5 +1,4 @@
 -- Each stop has its words.
-use borrow.Author.Rules.{rules}
 use Rattle.display.proofs.put_words.Goals as goal
 
 pub returns-in-UnknownType : goal.returns-in-UnknownType

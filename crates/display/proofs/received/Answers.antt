@@ -1,6 +1,5 @@
 -- Each answer has its text.
 use Rattle.text.proofs.Texts.{behind}
-use borrow.Author.Rules.{rules}
 use Rattle.display.proofs.received.Goals as goal
 
 pub returns-in-Continue : goal.returns-in-Continue

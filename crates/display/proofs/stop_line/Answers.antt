@@ -2,7 +2,6 @@
 use mathlib.Core.List.{append_assoc}
 use Rattle.display.specs.Shown.{stop_line}
 use Rattle.text.proofs.Texts.{parts}
-use borrow.Author.Rules.{rules}
 use Rattle.display.proofs.stop_line.Goals as goal
 
 pub returns : goal.returns
