@@ -1,5 +1,5 @@
 -- The replies: document 01, "Commands and replies", and change request 5. A reply has the command's frame ID and endpoint 2; unfilled bytes of its
--- body are zero. Its status, 0 or 1 (`statusNumber`), is the byte after the code and bit 2 of its header; name and version has none.
+-- body are zero. Its status, 0 or 1 (`status_number`), is the byte after the code and bit 2 of its header; name and version has none.
 use Rattle.std.specs.Prelude.{ℕ, Bool, cond, List, [], ◌∷◌, ◌++◌, length, get_or, take, drop}
 use Rattle.endian.specs.Lists.{padded, zeros}
 use Rattle.framing.specs.Header.{frame_id, in_field, Writing, byte, refused, header_byte}

@@ -23,7 +23,7 @@ use Rattle.upload.specs.declared.Failure.{Failure}
 use Rattle.upload.specs.declared.Next.TheVariants.{Send, Wait, Loaded}
 use Rattle.upload.specs.declared.Turn.{Turn}
 
--- frame k, of whose reply r has come; `sentFrame` where nothing has
+-- frame k, of whose reply r has come; `sent_frame` where nothing has
 abbrev pub held : ℕ → List ℕ → ℕ → Exchange
 held k r t = record { k = k; got = length r; reply = padded 129 r; ticks = t }
 
