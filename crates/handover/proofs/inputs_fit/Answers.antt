@@ -2,7 +2,6 @@
 use native.Mathlib.Omega.{arith}
 use Rattle.record.specs.Record.{has_second}
 use Rattle.handover.proofs.Records.{from_size}
-use borrow.Author.Rules.{rules}
 use Rattle.handover.proofs.inputs_fit.Goals as goal
 
 pub overflow_sub-size : goal.overflow_sub-size

@@ -1,6 +1,5 @@
 -- Mask bit 0 is the test of the definition.
 use borrow.Author.Tests.{ne_eqb}
-use borrow.Author.Rules.{rules}
 use Rattle.handover.proofs.measured_id.Goals as goal
 
 pub returns-then-mask-eq1 : goal.returns-then-mask-eq1

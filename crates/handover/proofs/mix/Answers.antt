@@ -7,7 +7,6 @@ use lib.ListN.{replicate}
 use Rattle.blake2s.specs.Hash.{hash_output}
 use Rattle.blake2s.proofs.Numbers.{digest_32}
 use Rattle.handover.proofs.Records.{joined, joined_length}
-use borrow.Author.Rules.{rules}
 use Rattle.handover.proofs.mix.Goals as goal
 
 pub returns : goal.returns

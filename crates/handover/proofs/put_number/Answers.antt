@@ -6,7 +6,6 @@ use native.Mathlib.Omega.{arith}
 use lib.ListN.{length, take, drop, length-drop}
 use lib.Seq.{length-take-le}
 use Rattle.handover.specs.Reset.{word_bytes}
-use borrow.Author.Rules.{rules}
 use Rattle.handover.proofs.put_number.Goals as goal
 
 pub returns : goal.returns

@@ -8,7 +8,6 @@ use lib.ListN.{length}
 use Rattle.record.specs.Record.{data_field, has_second}
 use Rattle.handover.specs.Reset.{inputs_fit}
 use Rattle.handover.proofs.Numbers.{fit_lengths, by_type_is, by_record, by_inputs, by_none}
-use borrow.Author.Rules.{rules}
 use Rattle.handover.proofs.reset.Goals as goal
 
 pub returns-then-next_type-gt5 : goal.returns-then-next_type-gt5
