@@ -1,4 +1,4 @@
--- What each call for C answers and leaves in everything that it is lent: begin, gather and act of `head`, through `stateIn` and `memoryOf`.
+-- What each call for C answers and leaves in everything that it is lent: begin, gather and act of `head`, through `state_in` and `memory_of`.
 use Rattle.std.specs.Prelude.{ℕ, Bool, true, false, cond, List, [], ◌∷◌}
 use Rattle.head.specs.Answers.{Report, refused, continues, whole, stopped, started, Gathering, Result, Outcome}
 use Rattle.head.specs.Begin.{Flash, beginning}

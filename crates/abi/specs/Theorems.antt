@@ -1,4 +1,4 @@
--- What is proved of the layout and of the calls for C. The proof is `abi-theorems` in proofs/Proved.antt.
+-- What is proved of the layout and of the calls for C. The proof is `abi_theorems` in proofs/Proved.antt.
 use Rattle.std.specs.Prelude.{ℕ, ◌≡◌, Bool, true, ◌&&◌, ◌||◌, List, [], ◌∷◌, ◌++◌, map, eqb, leb, length, get_or, replicate}
 use Rattle.endian.specs.Lists.{zeros, padded}
 use Rattle.head.specs.Answers.{report_of}
