@@ -1,6 +1,5 @@
 -- The number of the four bytes.
 use Rattle.endian.specs.Endian.{word}
-use borrow.Author.Rules.{rules}
 use Rattle.printer.proofs.input.word_at.Goals as goal
 
 pub returns : goal.returns

@@ -1,5 +1,4 @@
 -- Eight words, each in its place.
-use borrow.Author.Rules.{rules}
 use Rattle.printer.proofs.input.words_of.Goals as goal
 
 pub returns : goal.returns

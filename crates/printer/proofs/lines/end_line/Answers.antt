@@ -1,7 +1,6 @@
 -- Each case of the answer has its line.
 use mathlib.Core.Path.{sym}
 use Rattle.text.proofs.Texts.{nothing}
-use borrow.Author.Rules.{rules}
 use Rattle.printer.proofs.lines.end_line.Goals as goal
 
 pub returns-in-Continue : goal.returns-in-Continue

@@ -1,6 +1,5 @@
 -- Two bytes, one behind the other.
 use Rattle.text.proofs.Texts.{then}
-use borrow.Author.Rules.{rules}
 use Rattle.printer.proofs.lines.letter.Goals as goal
 
 pub returns : goal.returns

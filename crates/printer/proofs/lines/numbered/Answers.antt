@@ -2,7 +2,6 @@
 use mathlib.Core.List.{[], ◌∷◌}
 use Rattle.text.specs.Text.{decimal_of}
 use Rattle.printer.proofs.Texts.{in_three}
-use borrow.Author.Rules.{rules}
 use Rattle.printer.proofs.lines.numbered.Goals as goal
 
 pub returns : goal.returns

@@ -5,7 +5,6 @@ use lib.ListN.{take}
 use Rattle.text.specs.Text.{hex_of, text_of}
 use Rattle.text.proofs.Texts.{behind}
 use Rattle.printer.proofs.Texts.{in_three}
-use borrow.Author.Rules.{rules}
 use Rattle.printer.proofs.lines.reply_line.Goals as goal
 
 pub returns : goal.returns

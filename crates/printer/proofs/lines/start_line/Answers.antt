@@ -2,7 +2,6 @@
 use mathlib.Core.List.{[], ◌∷◌}
 use Rattle.text.specs.Text.{hex_of, decimal_of}
 use Rattle.printer.proofs.Texts.{in_five}
-use borrow.Author.Rules.{rules}
 use Rattle.printer.proofs.lines.start_line.Goals as goal
 
 pub returns : goal.returns

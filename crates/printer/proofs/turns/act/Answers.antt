@@ -3,7 +3,6 @@ use mathlib.Core.Path.{ap}
 use Rattle.head.specs.Answers.{Outcome}
 use Rattle.printer.specs.Turns.{turn_of}
 use Rattle.printer.proofs.Texts.{with_line}
-use borrow.Author.Rules.{rules}
 use Rattle.printer.proofs.turns.act.Goals as goal
 
 pub returns : goal.returns

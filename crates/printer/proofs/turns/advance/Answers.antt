@@ -1,6 +1,5 @@
 -- By what is read next.
 use mathlib.Core.Path.{refl}
-use borrow.Author.Rules.{rules}
 use Rattle.printer.proofs.turns.advance.Goals as goal
 
 pub returns-in-End : goal.returns-in-End

@@ -9,7 +9,6 @@ use Rattle.head.specs.declared.Begun.{Begun}
 use Rattle.printer.specs.Output.{words_in, no_flash, after_begin}
 use Rattle.printer.specs.Turns.{turn_of, begin_turn}
 use Rattle.printer.proofs.NoFlash.{ram_stays}
-use borrow.Author.Rules.{rules}
 use Rattle.printer.proofs.turns.begin.Goals as goal
 
 begun : (front ram words : List ℕ) (b : Begun) (ram' words' : List ℕ) → words ≡ words_in front

@@ -1,6 +1,5 @@
 -- Under 296 bytes the text is `E 1`, and the turn is over.
 use mathlib.Core.List.{[]}
-use borrow.Author.Rules.{rules}
 use borrow.Author.Tests.{lt-ltb, le-ltb}
 use Rattle.printer.specs.Lines.{error_line}
 use Rattle.printer.specs.Turns.{opening}

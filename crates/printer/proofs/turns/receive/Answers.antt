@@ -6,7 +6,6 @@ use Rattle.head.specs.Answers.{reports_whole, report_of}
 use Rattle.head.specs.declared.Answer.{Answer}
 use Rattle.head.specs.declared.Answer.TheVariants.{Refused, Continue, Whole, Stopped, Started}
 use Rattle.printer.specs.Output.{after_byte}
-use borrow.Author.Rules.{rules}
 use borrow.Author.Tests.{eq-eqb, ne_eqb}
 use Rattle.printer.proofs.turns.receive.Goals as goal
 

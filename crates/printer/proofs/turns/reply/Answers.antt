@@ -1,6 +1,5 @@
 -- No reply has 0 bytes.
 use borrow.Author.Tests.{eq-eqb, ne_eqb}
-use borrow.Author.Rules.{rules}
 use Rattle.printer.proofs.turns.reply.Goals as goal
 
 pub returns-then-n-eq0 : goal.returns-then-n-eq0

@@ -2,7 +2,6 @@
 use mathlib.Core.List.{[]}
 use Rattle.printer.specs.Lines.{waiting_line}
 use Rattle.printer.proofs.Texts.{with_line}
-use borrow.Author.Rules.{rules}
 use Rattle.printer.proofs.turns.wait.Goals as goal
 
 pub returns : goal.returns

@@ -1,7 +1,6 @@
 -- Nothing stands before the last line, if there is one.
 use mathlib.Core.List.{[]}
 use Rattle.printer.proofs.Texts.{with_line}
-use borrow.Author.Rules.{rules}
 use Rattle.printer.proofs.turns.without_reply.Goals as goal
 
 pub returns : goal.returns
