@@ -13,8 +13,18 @@ out=${1:-target/riscv32}
 tools=$(dirname "$(rt doc)")/toolchain/bin
 
 # -inline-threshold: with less, more calls, and what they hand over in memory; with more, code is repeated.
+# The three limits: how far the compiler looks for what overwrites a store. The module clears each variable that is an array or a struct
+# before it is written, and with the limits that it has of itself most of that stays.
 target=(--target=riscv32-unknown-none-elf -march=rv32ic_zmmul -mabi=ilp32)
-flags=("${target[@]}" -Os -ffunction-sections -fdata-sections -fstack-usage -mllvm -inline-threshold=800)
+flags=("${target[@]}" -Os -ffunction-sections -fdata-sections -fstack-usage)
+for word in inline-threshold=800 dse-memoryssa-scanlimit=100000 dse-memoryssa-walklimit=100000 memssa-check-limit=100000; do
+    flags+=(-mllvm "-$word")
+done
+# With these words the kit's compiler hands a module to clang.
+flags_module=("${flags[@]}")
+for word in no-trap-after-noreturn trap-unreachable disable-machine-licm disable-postra-machine-licm sink-common-insts=false; do
+    flags_module+=(-mllvm "-$word")
+done
 flags_c=("${flags[@]}" -Wall -Wextra -Werror -nostdinc -isystem firmware/include -I include -I firmware)
 
 fail() {
@@ -34,7 +44,7 @@ proved() {
         mv "$out/new.ll" "$out/x86_64.ll"
     fi
     python3 firmware/retarget.py < "$out/x86_64.ll" > "$out/abi.ll" || fail "the module of abi cannot be made one for riscv32"
-    compile abi "${flags[@]}" -x ir "$out/abi.ll"
+    compile abi "${flags_module[@]}" -x ir "$out/abi.ll"
     objects=("$out/abi.o")
 }
 
@@ -44,7 +54,7 @@ others() { # SOURCE...
     for source in "$@"; do
         name=calls_$(basename "${source%.*}")
         case $source in
-            *.ll) compile "$name" "${flags[@]}" -x ir "$source" ;;
+            *.ll) compile "$name" "${flags_module[@]}" -x ir "$source" ;;
             *) compile "$name" "${flags_c[@]}" "$source" ;;
         esac
         objects+=("$out/$name.o")
