@@ -2,7 +2,7 @@
 """Makes an LLVM module of the Rattle compiler, which is for x86-64, one for riscv32: retarget.py [--test] < MODULE.ll > OUT.ll
 
 The two lines that name the target are replaced, the attributes that only x86-64 has are dropped, and every function is to be small.
-Some functions stay functions, however much is inlined.
+Some functions stay functions, however much is inlined. An address that is taken for a number of 64 bits is extended to one.
 
 Then each function's pointers get an alignment. The module does not say any, since x86-64 reads a word from every address; the
 compiler for riscv32 must take it that a pointer is aligned to nothing, and copies what is behind it byte by byte. An argument
@@ -89,7 +89,7 @@ def retargeted(line, known):
     if m := DEFINE.match(line):
         line = re.sub(r"\bptr noundef (%\w+)", lambda p: f"ptr noundef align {known[m[2], p[1]]} {p[1]}", line)
         return line.replace(" #", " noinline #") if m[2] in CALLED else line
-    return line.replace(ATTRIBUTES, "optsize")
+    return line.replace(ATTRIBUTES, "optsize").replace("= ptrtoaddr ptr", "= ptrtoint ptr")
 
 
 def with_tests(lines):
