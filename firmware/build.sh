@@ -36,14 +36,10 @@ compile() { # NAME WORDS...
     "$tools/clang" -c -o "$out/$1.o" "${@:2}" || fail "$1 does not compile"
 }
 
-# The proved calls, as an object. The kit reads the proofs again to make their module, so that is kept until a crate changes.
+# The proved calls, as an object.
 proved() {
     scripts/archive abi > "$out/log" 2>&1 || fail "abi is not proved: $(tail -n 1 "$out/log")"
-    if [ ! "$out/x86_64.ll" -nt target/staticlib/libabi.a ]; then
-        firmware/module.sh abi_c "$out/new.ll" || fail "there is no module of abi_c"
-        mv "$out/new.ll" "$out/x86_64.ll"
-    fi
-    python3 firmware/retarget.py < "$out/x86_64.ll" > "$out/abi.ll" || fail "the module of abi cannot be made one for riscv32"
+    python3 firmware/retarget.py < target/staticlib/abi.ll > "$out/abi.ll" || fail "the module of abi cannot be made one for riscv32"
     compile abi "${flags_module[@]}" -x ir "$out/abi.ll"
     objects=("$out/abi.o")
 }

@@ -1,9 +1,9 @@
 #!/usr/bin/env bash
-# Writes the LLVM module that a proved static library is compiled from: firmware/module.sh CRATE OUT.ll, from the repository's top, after
-# `rt lib` in the crate's folder. The kit's compiler hands the module to the clang of a toolchain folder. Here that folder is one of links,
-# whose clang keeps the module and then does its work.
+# Proves and builds a static library over the libraries that it depends on, which rt has built, and writes the LLVM module that it is
+# compiled from: firmware/module.sh CRATE OUT.ll OUT.a, from the repository's top. The kit's compiler hands the module to the clang of a
+# toolchain folder. Here that folder is one of links, whose clang keeps the module and then does its work.
 set -eu
-crate=$1 out=$(realpath "$2")
+crate=$1 out=$(realpath "$2") archive=$(realpath "$3")
 kit=$(dirname "$(rt doc)")
 tools=$kit/toolchain
 
@@ -19,7 +19,7 @@ exec "$tools/bin/clang" "\$@"
 W
 chmod +x "$over/bin/clang"
 
-# What `rt lib` built: a library of the repository in its folder's out/rlib, and the kit's in rlibs.
+# A library of the repository is in its crate's out/rlib, and the kit's are in rlibs.
 words=(--extern "std=$kit/rlibs/std.rlib" -L "dependency=$kit/rlibs")
 for d in $(sed -n "s/^$crate staticlib: *//p" crates.txt); do
     if [ -d "crates/$d" ]; then at=$PWD/crates/$d/out/rlib; else at=$kit/rlibs; fi
@@ -29,8 +29,8 @@ for at in "$PWD"/crates/*/out/rlib; do words+=(-L "dependency=$at"); done
 cd "crates/$crate"
 if ! "$kit/bin/rattle" build --crate-name "$crate" src/lib.rt "${words[@]}" --antt-project "$kit/rattle/logic/antt-project.json" \
     --logic-built "$kit/logic_built" --incremental out/incremental --links "$crate=" --crate-type staticlib --backend llvm \
-    --toolchain "$over" -o "$over/out" > "$over/log" 2>&1; then
-    echo "module.sh: the kit does not compile $crate: $(tail -n 1 "$over/log")" >&2
+    --toolchain "$over" -o "$archive"; then
+    echo "module.sh: $crate is not proved and built over what stands in out/" >&2
     exit 1
 fi
 if [ ! -e "$over/module.bc" ]; then

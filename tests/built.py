@@ -97,11 +97,6 @@ class Copy:
         time.sleep(0.05)
 
 
-def program(name):
-    """Where scripts/built has a program."""
-    return TOP / "crates" / name / "out" / name
-
-
 def elsewhere(folder, top, name):
     """A command's names elsewhere, each with the folder where it is called so and CDPATH is set: a symbolic link, and a relative path."""
     link = folder / "links" / name
@@ -143,6 +138,9 @@ def changes(copy):
     yield copy.built("and again, with a binary", 1, failed=True)
     yield copy.wrong("run, where it fails", (b"", LOG, 1), 1, [copy.started("run")])
     fails.unlink()
+    (copy.top / "target" / "proved").touch()
+    yield copy.built("all proved and built", 0)
+    source.touch()
 
 
 def runs(copy):

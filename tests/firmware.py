@@ -71,7 +71,7 @@ def build_tested():
     """Builds tests/calls_riscv32.c with tests of each alignment that the compiler was told."""
     ALIGNED.mkdir(parents=True, exist_ok=True)
     module, program = ALIGNED / "tested.ll", ALIGNED / "calls"
-    with open(SESSION.parent / "x86_64.ll") as before, open(module, "w") as after:
+    with open(TOP / "target" / "staticlib" / "abi.ll") as before, open(module, "w") as after:
         subprocess.run([sys.executable, TOP / "firmware" / "retarget.py", "--test"], stdin=before, stdout=after, check=True)
     if (tests := module.read_text().count("call void @mastfrap_test_alignment(")) == 0:
         raise Difference("retarget.py --test put no test of an alignment into the module")
