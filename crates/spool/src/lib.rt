@@ -149,32 +149,28 @@ fn tell(d: Done, len: &mut usize) -> u32
     n
 }
 
-#[unsafe(no_mangle)]
-pub extern "C" fn mastfrap_spool_read(spool: &[u8], room: &mut [u8], len: &mut usize) -> u32
+pub fn mastfrap_spool_read(spool: &[u8], room: &mut [u8], len: &mut usize) -> u32
     ensures { outcome result len.new room.new ≡ with_count (reading spool.now room.old) len.old }
 {
     let d = read(spool, room);
     tell(d, len)
 }
 
-#[unsafe(no_mangle)]
-pub extern "C" fn mastfrap_spool_look(spool: &[u8], place: usize) -> u32
+pub fn mastfrap_spool_look(spool: &[u8], place: usize) -> u32
     ensures { result ≡ look_refusal spool.now place }
 {
     let a = look(spool, place);
     answer_number(a)
 }
 
-#[unsafe(no_mangle)]
-pub extern "C" fn mastfrap_spool_write(program: &[u8], room: &mut [u8], len: &mut usize) -> u32
+pub fn mastfrap_spool_write(program: &[u8], room: &mut [u8], len: &mut usize) -> u32
     ensures { outcome result len.new room.new ≡ with_count (writing program.now room.old) len.old }
 {
     let d = write(program, room);
     tell(d, len)
 }
 
-#[unsafe(no_mangle)]
-pub extern "C" fn mastfrap_spool_salvage(spool: &mut [u8], spares: &[u8], report: &mut [u8]) -> u32
+pub fn mastfrap_spool_salvage(spool: &mut [u8], spares: &[u8], report: &mut [u8]) -> u32
     ensures { salvaging_as result spool.new report.new ≡ salvaging spool.old spares.now report.old }
 {
     let a = salvage(spool, spares, report);
