@@ -25,10 +25,23 @@ def snake(name):
     return re.sub(r"(?<=[a-z0-9])[A-Z]", lambda m: "_" + m[0].lower(), name).replace("-", "_")
 
 
+def imported(text):
+    """What a file imports from the kit's libraries: those names are the kit's."""
+    own = set(os.listdir("crates"))
+    found = set()
+    for path, words in re.findall(r"(?m)^use ([^\s{]+)\.\{([^}]*)\}", text):
+        steps = path.split(".")
+        if steps[0] != "Rattle" or steps[1] not in own:
+            found |= {word.strip() for word in words.split(",")}
+    return found
+
+
 def antt(text, names, is_proof):
+    libraries = imported(text)
+
     def turned(m):
         dot, word = m.groups()
-        if word not in names:
+        if word not in names or word in libraries:
             return m[0]
         return dot + (snake(word) if dot and is_proof else names[word])
 
@@ -60,6 +73,8 @@ def main():
                 continue
             with open(path, encoding="utf-8") as file:
                 old = file.read()
+            if path == "crates/session/specs/Reading.antt":  # a parameter and a field of one record
+                old = old.replace("(rec builtIn d :", "(rec built_in_digest d :").replace("d ≡ builtIn", "d ≡ built_in_digest")
             if path.endswith(".antt"):
                 new = antt(old, names, path.endswith("/Proof.antt") and "/proofs/" in path)
             elif path.endswith(".rt"):
