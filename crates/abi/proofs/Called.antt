@@ -18,7 +18,7 @@ use Rattle.head.specs.declared.Acted.{Acted}
 use Rattle.head.proofs.Admitted.{act_admitted}
 use Rattle.head.proofs.Ranges.{range_facts}
 use Rattle.head.proofs.Proved.{head_theorems}
-use Rattle.abi.specs.Layout.{Memory, lent, holds, state_in, memory_of}
+use Rattle.abi.specs.Layout.{Memory, holds, state_in, memory_of}
 use Rattle.abi.specs.Theorems.{Lengths}
 use Rattle.abi.specs.Calls.{answer_number, start_of, is_refused, Start, start_in, after_begin, begin_told, begin_call, after_act, act_told, act_call}
 use Rattle.abi.proofs.RoundTrip.{forth}

@@ -1,5 +1,4 @@
 -- Address and size are those of the answer.
-use borrow.Author.Rules.{rules}
 use Rattle.abi.proofs.give.Goals as goal
 
 pub returns : goal.returns

@@ -1,6 +1,5 @@
 -- begin by value; what it gives is put in the lent memory unless it is refused.
 use mathlib.Core.Path.{sym, ◌∙◌}
-use borrow.Author.Rules.{rules}
 use Rattle.head.specs.Begin.{flash_of}
 use Rattle.abi.specs.Layout.{lent}
 use Rattle.abi.specs.Calls.{start_in}

@@ -1,5 +1,4 @@
 -- The number is the answer's.
-use borrow.Author.Rules.{rules}
 use Rattle.abi.proofs.mastfrap_reset.Goals as goal
 
 pub returns : goal.returns

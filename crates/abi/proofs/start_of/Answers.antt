@@ -1,5 +1,4 @@
 -- Only a start has an address and a size.
-use borrow.Author.Rules.{rules}
 use Rattle.abi.proofs.start_of.Goals as goal
 
 pub returns-in-Started : goal.returns-in-Started

@@ -1,5 +1,5 @@
-use Prim.Native.Nat.{ℕ, ◌≤◌, ◌-◌}
-use lib.ListN.{length, drop, set, replicate, length-set}
+use Prim.Native.Nat.{ℕ}
+use lib.ListN.{drop, set, replicate, length-set}
 use mathlib.Core.List.{List, ◌++◌}
 use borrow.Author.Fill.{fill_more}
 use native.Mathlib.Omega.{arith}

@@ -1,10 +1,8 @@
 -- After i turns the first i bytes are zero.
-use Prim.Native.Nat.{ℕ, ◌≤◌, ◌-◌}
-use lib.ListN.{length, drop, set, replicate, length-set}
-use mathlib.Core.List.{List, ◌++◌}
-use borrow.Author.Fill.{fill_more}
-use native.Mathlib.Omega.{arith}
-use mathlib.Core.Path.{◌≡◌, refl, ap, ◌∙◌}
+use Prim.Native.Nat.{◌≤◌, ◌-◌}
+use lib.ListN.{length, drop, replicate}
+use mathlib.Core.List.{◌++◌}
+use mathlib.Core.Path.{◌≡◌}
 use Rattle.abi.proofs.gathering.clear_body.Given as goal
 
 abbrev pub invariant-loop-i : goal.invariant-loop-i

@@ -1,6 +1,5 @@
 -- The tests are those of the definition.
 use borrow.Author.Tests.{eq-eqb, ne_eqb, le-leb, lt-leb}
-use borrow.Author.Rules.{rules}
 use Rattle.abi.proofs.gathering.frame_ok.Goals as goal
 
 pub returns-then-got-eq0 : goal.returns-then-got-eq0

@@ -1,6 +1,5 @@
 -- Each test is one part of the range.
-use borrow.Author.Tests.{eq-eqb, ne_eqb, not-true, not-false}
-use borrow.Author.Rules.{rules}
+use borrow.Author.Tests.{eq-eqb, ne_eqb}
 use Rattle.abi.proofs.gathering.numbers_ok.Goals as goal
 
 pub returns-then-not-length_ok : goal.returns-then-not-length_ok

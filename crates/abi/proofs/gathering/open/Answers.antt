@@ -2,7 +2,6 @@
 use Prim.Native.Nat.{ℕ}
 use mathlib.Core.List.{List}
 use mathlib.Core.Path.{◌≡◌, sym, ◌∙◌}
-use borrow.Author.Rules.{rules}
 use Rattle.abi.specs.Layout.{lent}
 use Rattle.abi.specs.Calls.{gather_told}
 use Rattle.abi.proofs.Ways.{opens, stops}

@@ -1,7 +1,5 @@
 -- The tests are those of the state.
 use mathlib.Core.Path.{sym, ◌∙◌}
-use native.Mathlib.Omega.{arith}
-use borrow.Author.Rules.{rules}
 use Rattle.abi.proofs.Ranges.{no_state, bad_numbers, bad_frame, has_ended, has_whole, admits}
 use Rattle.abi.proofs.gathering.refusal.Goals as goal
 

@@ -3,7 +3,6 @@ use Prim.Native.Nat.{◌≤◌}
 use native.Mathlib.Omega.{arith}
 use lib.ListN.{get_or}
 use Rattle.framing.proofs.Headers.{body_small}
-use borrow.Author.Rules.{rules}
 use Rattle.abi.proofs.Ways.{wholes, keeps, ends, passes}
 use Rattle.abi.proofs.gathering.take.Goals as goal
 

@@ -1,6 +1,5 @@
 -- Each test is one part of the definition.
 use borrow.Author.Tests.{lt-leb, le-leb}
-use borrow.Author.Rules.{rules}
 use Rattle.abi.proofs.layout.holds.Goals as goal
 
 pub returns-then-bytes-gt3 : goal.returns-then-bytes-gt3

@@ -1,9 +1,5 @@
 -- Each field is read at its place.
-use Prim.Native.Nat.{ℕ, ◌/◌}
-use mathlib.Core.Path.{◌≡◌}
-use native.Mathlib.Omega.{arith}
 use lib.ListN.{get_or}
-use borrow.Author.Rules.{rules}
 use Rattle.abi.specs.Layout.{state_in}
 use Rattle.abi.proofs.RoundTrip.{low}
 use Rattle.abi.proofs.layout.read.Goals as goal

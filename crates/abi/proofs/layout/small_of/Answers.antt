@@ -1,5 +1,4 @@
 -- Each call gives one of the bytes.
-use borrow.Author.Rules.{rules}
 use Rattle.abi.proofs.layout.small_of.Goals as goal
 
 pub returns : goal.returns

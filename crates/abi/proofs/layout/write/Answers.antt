@@ -2,7 +2,6 @@
 use Prim.Native.Nat.{ℕ}
 use mathlib.Core.Path.{◌≡◌}
 use mathlib.Core.List.{List, [], ◌∷◌}
-use borrow.Author.Rules.{rules}
 use Rattle.head.specs.declared.State.{State}
 use Rattle.abi.specs.Layout.{lent, memory_of}
 use Rattle.abi.proofs.layout.write.Goals as goal

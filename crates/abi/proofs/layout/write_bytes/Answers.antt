@@ -1,6 +1,4 @@
 -- The parts are written from the front to the end.
-use mathlib.Core.Path.{◌≡◌}
-use lib.ListN.{length}
 use borrow.Author.Rules.{rules}
 use Rattle.abi.specs.Theorems.{Sized}
 use Rattle.abi.proofs.Packed.{packed}
