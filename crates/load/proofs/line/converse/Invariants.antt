@@ -1,0 +1,7 @@
+-- The loop ends by what `upload` proves of every event: each leaves less of the load (`fewer`), so no device makes it run forever.
+use Rattle.std.proofs.Common.{suc, cond}
+use Rattle.upload.proofs.Ends.{left}
+use Rattle.load.proofs.line.converse.Given as goal
+
+abbrev pub decreases-loop-over : goal.decreases-loop-over
+decreases-loop-over l = cond l.over 0 (suc (left l.job l.t.exchange))
