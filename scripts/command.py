@@ -1,5 +1,6 @@
 """What the commands at the top share: bad arguments, files, a program that is built if need be, and one that is run for its number."""
 import argparse
+import contextlib
 import fcntl
 import hashlib
 import os
@@ -108,11 +109,23 @@ def front(data):
     return fd
 
 
+def named_otherwise(words):
+    """The files among a program's words whose names are not in UTF-8, each with the descriptor where the program looks for it: 10 and which
+    word it is. A Rattle program opens no such name. What is here is only the place of a file: the program opens it, and says why if it cannot."""
+    for place, word in enumerate(words, 11):
+        try:
+            word.encode()
+        except UnicodeEncodeError:
+            with contextlib.suppress(OSError):
+                yield place, os.open(word, os.O_PATH)
+
+
 def run(name, program, words, places):
     """Runs the program of a command with these words, and with the descriptor places[n] as its descriptor n: the number that it writes to
     descriptor 3. It ends with the command."""
     out, number = os.pipe()
-    high = {place: fcntl.fcntl(fd, fcntl.F_DUPFD_CLOEXEC, 10) for place, fd in {**places, 3: number}.items()}
+    places = {**places, **dict(named_otherwise(words)), 3: number}
+    high = {place: fcntl.fcntl(fd, fcntl.F_DUPFD_CLOEXEC, max(places) + 1) for place, fd in places.items()}
     actions = [(os.POSIX_SPAWN_DUP2, fd, place) for place, fd in high.items()]
     # A signal between the start and the try would leave the program behind.
     ending = {signal.SIGINT, signal.SIGTERM}
