@@ -4,7 +4,6 @@ use mathlib.Core.Bool.{Bool, true, false, cond, not, ◌&&◌}
 use mathlib.Core.List.{List, [], ◌∷◌, ◌++◌}
 use mathlib.Core.Path.{◌≡◌, refl, sym, ap, ◌∙◌}
 use native.Mathlib.Omega.{arith}
-use native.Mathlib.Nat.{sub-zero}
 use lib.Dec.{eqb, leb}
 use lib.ListN.{length, take, drop, length-drop, length-take}
 use lib.Seq.{drop-drop, drop_at, take-add, take-take, length-take-le}
@@ -15,7 +14,7 @@ use Rattle.endian.specs.Lists.{zeros, same}
 use Rattle.endian.specs.Fields.{field_of, number_in}
 use Rattle.endian.proofs.Cases.{impossible}
 use Rattle.endian.proofs.Same.{same_length}
-use Rattle.spool_block.specs.Block.{number_field, count_field, program_field, check_field, checked_field, count_in, used_in, filler_in, good_check, good_count, good_filler, block_refusal, is_good}
+use Rattle.spool_block.specs.Block.{number_field, check_field, checked_field, count_in, used_in, filler_in, good_check, good_count, good_filler, block_refusal, is_good}
 
 module _ (n i : ℕ) (b : List ℕ) where
   pub bad_check : good_check b ≡ false → block_refusal n i b ≡ 51

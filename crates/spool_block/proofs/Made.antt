@@ -1,6 +1,6 @@
 -- A block as it is made, and that it is good at its place.
 use Prim.Native.Nat.{ℕ, ◌+◌, ◌-◌, ◌^◌, ◌≤◌, ◌<◌}
-use mathlib.Core.Bool.{Bool, true, false}
+use mathlib.Core.Bool.{true}
 use mathlib.Core.List.{List, [], ◌∷◌, ◌++◌, append-nil, append_assoc}
 use mathlib.Core.Path.{◌≡◌, refl, sym, ap, ◌∙◌}
 use native.Mathlib.Omega.{arith}
@@ -8,13 +8,12 @@ use lib.ListN.{length, take, drop, length-append, length-replicate, replicate-ap
 use lib.Seq.{take_all, take_at, drop_at, drop-length}
 use Rattle.rfc7693.specs.Rfc7693.{blake2s}
 use Rattle.rfc7693.proofs.Lengths.{digest_length}
-use Rattle.endian.specs.Endian.{first_bytes}
-use Rattle.endian.specs.Lists.{zeros, padded, put_at, same}
+use Rattle.endian.specs.Lists.{zeros, padded, put_at}
 use Rattle.endian.specs.Fields.{field_of, number_in, word_bytes}
 use Rattle.endian.proofs.Lists.{drop_replicate, put_fits}
 use Rattle.endian.proofs.Same.{same_refl}
 use Rattle.endian.proofs.Words.{bytes_length, word_back}
-use Rattle.spool_block.specs.Block.{number_field, count_field, program_field, check_field, checked_field, count_in, used_in, filler_in, good_check, good_count, good_filler, block_refusal}
+use Rattle.spool_block.specs.Block.{number_field, program_field, count_in, used_in, filler_in, good_check, good_count, good_filler, block_refusal}
 use Rattle.spool_block.specs.Making.{checked_part, block_of}
 use Rattle.spool_block.proofs.Blocks.{good_block}
 

@@ -1,24 +1,24 @@
 -- The theorem of specs/Theorems.antt.
 use Prim.Native.Nat.{ℕ, zero, suc, ◌+◌, ◌-◌, ◌*◌, ◌/◌, ◌%◌, ◌^◌, ◌<◌, ◌≤◌}
 use mathlib.Core.Bool.{Bool, true, false, cond, not, ◌&&◌}
-use mathlib.Core.List.{List, [], ◌∷◌, ◌++◌, append_assoc}
+use mathlib.Core.List.{List, [], ◌∷◌, ◌++◌}
 use mathlib.Core.Logic.{◌↔◌}
 use mathlib.Core.Path.{◌≡◌, refl, sym, ap, subst, ◌∙◌}
 use native.Mathlib.Omega.{arith}
 use lib.Dec.{eqb, leb}
-use lib.ListN.{length, take, drop, get_or, length-take, length-drop, take-append-drop}
-use lib.Seq.{take_all, take-add, drop-drop, length-take-le}
-use borrow.Author.Tests.{eq-eqb, ne_eqb, eqb-true, eqb-false, le-leb, leb-true}
+use lib.ListN.{length, take, drop, length-drop, take-append-drop}
+use lib.Seq.{take_all, take-add, length-take-le}
+use borrow.Author.Tests.{eq-eqb, eqb-true, eqb-false, le-leb, leb-true}
 use Rattle.rfc7693.specs.Rfc7693.{rotr, words, iv, sigma, added, xor_rotated, G, work_vector, round, rounds, F, input, block_at, block_count, leading, compressions, compressed, initial, blake2s}
 use Rattle.endian.specs.Endian.{word, first_bytes}
-use Rattle.endian.specs.Lists.{zeros, padded, same, Bytes, All}
+use Rattle.endian.specs.Lists.{zeros, padded, Bytes}
 use Rattle.endian.specs.Fields.{field_of, number_in, word_bytes}
 use Rattle.endian.proofs.Cases.{impossible}
 use Rattle.endian.proofs.Same.{same_exactly}
 use Rattle.spool_block.specs.Block.{number_field, count_field, program_field, check_field, checked_field, count_in, used_in, filler_in, good_check, good_count, good_filler, block_refusal}
 use Rattle.spool_block.specs.Making.{checked_part, block_of}
 use Rattle.spool_block.specs.Theorems.{CountFits, CheckIs, NumberIs, ContentsAre, Settles, Blocks}
-use Rattle.spool_block.proofs.Blocks.{IsGood, is_good_when, good_block, count_most, used_length}
+use Rattle.spool_block.proofs.Blocks.{is_good_when, count_most, used_length}
 use Rattle.spool_block.proofs.Made.{block_length, used_of, count_of, made_good}
 
 -- ---- each test, as what it says

@@ -1,6 +1,5 @@
 -- The check in the block is compared with the one made.
 use Rattle.spool_block.specs.Block.{good_check}
-use borrow.Author.Rules.{rules}
 use Rattle.spool_block.proofs.check_is_good.Goals as goal
 
 pub returns : goal.returns

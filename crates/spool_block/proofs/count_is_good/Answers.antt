@@ -1,12 +1,11 @@
 -- Each way's tests are the definition's.
-use mathlib.Core.Bool.{true, false}
+use mathlib.Core.Bool.{true}
 use mathlib.Core.Path.{◌≡◌, sym, ◌∙◌}
 use native.Mathlib.Omega.{arith}
 use Prim.Native.Nat.{◌+◌}
 use lib.Dec.{eqb}
-use borrow.Author.Tests.{not-true, not-false, eq-eqb, ne_eqb, le-leb}
+use borrow.Author.Tests.{eq-eqb, ne_eqb, le-leb}
 use Rattle.spool_block.specs.Block.{good_count}
-use borrow.Author.Rules.{rules}
 use Rattle.spool_block.proofs.count_is_good.Goals as goal
 
 pub returns-then-not-is_last : goal.returns-then-not-is_last

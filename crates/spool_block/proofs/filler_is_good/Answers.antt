@@ -5,7 +5,6 @@ use native.Mathlib.Omega.{arith}
 use lib.ListN.{replicate}
 use lib.Seq.{length-take-le}
 use Rattle.spool_block.proofs.Blocks.{filler_part}
-use borrow.Author.Rules.{rules}
 use Rattle.spool_block.proofs.filler_is_good.Goals as goal
 
 pub slice_bounds-equal-end-2 : goal.slice_bounds-equal-end-2

@@ -3,11 +3,9 @@ use Prim.Native.Nat.{◌≤◌}
 use mathlib.Core.Bool.{true, false}
 use mathlib.Core.Path.{◌≡◌, sym, ◌∙◌}
 use native.Mathlib.Omega.{arith}
-use borrow.Author.Tests.{not-true, not-false}
 use Rattle.endian.specs.Fields.{number_in}
-use Rattle.spool_block.specs.Block.{number_field, count_in, good_check, good_count, good_filler}
+use Rattle.spool_block.specs.Block.{number_field, count_in, good_check, good_count}
 use Rattle.spool_block.proofs.Blocks.{bad_check, bad_number, bad_count, bad_filler, good_block, count_most}
-use borrow.Author.Rules.{rules}
 use Rattle.spool_block.proofs.first_fault.Goals as goal
 
 pub returns-then-not-check_is_good : goal.returns-then-not-check_is_good

@@ -1,6 +1,5 @@
 -- Eight bytes of two words are four of each.
 use Rattle.endian.specs.Endian.{first_bytes}
-use borrow.Author.Rules.{rules}
 use Rattle.spool_block.proofs.front.Goals as goal
 
 pub returns : goal.returns

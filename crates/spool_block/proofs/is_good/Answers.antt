@@ -1,7 +1,6 @@
 -- A short block and one with another number are not good; behind both tests the refusal tells.
 use mathlib.Core.Path.{sym, ◌∙◌}
 use Rattle.spool_block.proofs.Blocks.{other_number, short_bad}
-use borrow.Author.Rules.{rules}
 use Rattle.spool_block.proofs.is_good.Goals as goal
 
 pub returns-then-b-lt512 : goal.returns-then-b-lt512

@@ -5,7 +5,6 @@ use mathlib.Core.Path.{◌≡◌, refl, sym}
 use native.Mathlib.Omega.{arith}
 use lib.Dec.{eqb}
 use borrow.Author.Tests.{eq-eqb, ne_eqb, eqb-true, eqb-false}
-use borrow.Author.Rules.{rules}
 use Rattle.spool_block.proofs.is_last.Goals as goal
 
 last : (i n : ℕ) → (n ≡ 0 → ⊥) → eqb i (n - 1) ≡ eqb (i + 1) n

@@ -1,12 +1,11 @@
 -- The check is that of the first 480 bytes, and stands behind them (`checked`).
 use Prim.Native.Nat.{◌≤◌}
-use mathlib.Core.Path.{◌≡◌, refl, ◌∙◌}
+use mathlib.Core.Path.{refl}
 use native.Mathlib.Omega.{arith}
 use lib.ListN.{length, take, length-take}
 use Rattle.endian.specs.Lists.{zeros}
 use Rattle.spool_block.specs.Making.{checked_part, block_of}
 use Rattle.spool_block.proofs.Made.{part_length, checked}
-use borrow.Author.Rules.{rules}
 use Rattle.spool_block.proofs.make.Goals as goal
 
 pub unchecked-b-requires : goal.unchecked-b-requires

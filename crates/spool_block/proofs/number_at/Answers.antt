@@ -1,7 +1,6 @@
 -- The four bytes are the field's (`word_at`).
 use mathlib.Core.Path.{sym, ◌∙◌}
 use Rattle.endian.proofs.Words.{word_at}
-use borrow.Author.Rules.{rules}
 use Rattle.spool_block.proofs.number_at.Goals as goal
 
 pub returns : goal.returns

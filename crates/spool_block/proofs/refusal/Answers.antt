@@ -1,7 +1,6 @@
 -- A short block has no whole check (`short-check`).
 use mathlib.Core.Path.{sym}
 use Rattle.spool_block.proofs.Blocks.{short_check, bad_check}
-use borrow.Author.Rules.{rules}
 use Rattle.spool_block.proofs.refusal.Goals as goal
 
 pub returns-then-b-lt512 : goal.returns-then-b-lt512

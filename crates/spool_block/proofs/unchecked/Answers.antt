@@ -1,7 +1,5 @@
 -- The front, then the program bytes behind it (`unchecked-block`).
-use mathlib.Core.Path.{◌∙◌}
 use Rattle.spool_block.proofs.Made.{unchecked_block}
-use borrow.Author.Rules.{rules}
 use Rattle.spool_block.proofs.unchecked.Goals as goal
 
 pub returns : goal.returns

@@ -1,12 +1,10 @@
 -- A block too short for a count uses nothing, and another as many of its program bytes as it counts.
 use Prim.Native.Nat.{◌≤◌}
-use mathlib.Core.Path.{◌≡◌, ◌∙◌}
 use native.Mathlib.Omega.{arith}
-use lib.ListN.{length, drop, drop_of_length-le}
+use lib.ListN.{length, drop_of_length-le}
 use lib.Seq.{take-nil}
 use Rattle.endian.proofs.Lists.{drop_whole}
 use Rattle.spool_block.specs.Block.{count_in, used_in}
-use borrow.Author.Rules.{rules}
 use Rattle.spool_block.proofs.used.Goals as goal
 
 pub returns-then-b-lt8 : goal.returns-then-b-lt8
