@@ -1,9 +1,9 @@
 -- What becomes of a block.
-use Prim.Native.Nat.{ℕ, zero, suc, ◌+◌, ◌*◌, ◌/◌, ◌≤◌, ◌<◌}
-use mathlib.Core.Bool.{Bool, true, false, cond}
-use mathlib.Core.List.{List, [], ◌∷◌}
-use mathlib.Core.Option.{Option, none, some}
-use mathlib.Core.Path.{◌≡◌, refl, sym, ap, subst, ◌∙◌}
+use Prim.Native.Nat.{ℕ, zero, suc, ◌*◌, ◌≤◌, ◌<◌}
+use mathlib.Core.Bool.{Bool, true, false}
+use mathlib.Core.List.{List}
+use mathlib.Core.Option.{none, some}
+use mathlib.Core.Path.{◌≡◌, refl, sym, subst}
 use native.Mathlib.Omega.{arith}
 use native.Mathlib.Nat.{le_of_suc-le-suc}
 use lib.Dec.{ltb}
@@ -12,7 +12,7 @@ use lib.Seq.{length-take-le}
 use borrow.Author.Tests.{ltb-true, ltb-false}
 use Rattle.spool_block.specs.Block.{is_good}
 use Rattle.spool.specs.Reading.{blocks_in, block_at}
-use Rattle.spool.specs.Salvage.{blocks_of, first_good, Mended, kept, replaced_by, mended, mended_at}
+use Rattle.spool.specs.Salvage.{blocks_of, Mended, kept, replaced_by, mended, mended_at}
 use Rattle.spool.specs.Steps.{FirstGood}
 use Rattle.spool.proofs.Firsts.{first_good_is, first_none}
 

@@ -1,7 +1,7 @@
 -- The theorem of specs/Theorems.antt.
-use Prim.Native.Nat.{ℕ, ◌+◌, ◌*◌, ◌/◌, ◌%◌, ◌<◌, ◌≤◌}
+use Prim.Native.Nat.{ℕ, ◌*◌, ◌/◌, ◌%◌, ◌<◌, ◌≤◌}
 use mathlib.Core.Bool.{cond}
-use mathlib.Core.List.{List, [], ◌∷◌, ◌++◌, flatten}
+use mathlib.Core.List.{List, [], ◌∷◌, flatten}
 use mathlib.Core.Logic.{◌↔◌}
 use mathlib.Core.Path.{◌≡◌, refl, sym, ap, subst, ◌∙◌}
 use native.Mathlib.Omega.{arith}
@@ -15,21 +15,20 @@ use Rattle.endian.specs.Endian.{word, first_bytes}
 use Rattle.endian.specs.Lists.{each, zeros, Bytes}
 use Rattle.endian.proofs.Lists.{length_each, get_or_each}
 use Rattle.protocol.specs.Replies.{put_in}
-use Rattle.spool_block.specs.Block.{block_refusal, is_good, good_check}
+use Rattle.spool_block.specs.Block.{block_refusal, good_check}
 use Rattle.spool.specs.Answers.{number_of, Outcome, outcome}
-use Rattle.spool.specs.Reading.{blocks_in, block_at, refusal_at, bad_length, program_in, read_refusal, reading, look_refusal}
+use Rattle.spool.specs.Reading.{blocks_in, block_at, refusal_at, bad_length, program_in, reading}
 use Rattle.spool.specs.Writing.{spool_blocks, spool_of, writing}
-use Rattle.spool.specs.Salvage.{first_good, Mended, mended, mended_at, salvage_refusal, salvaging_as, salvaging}
-use Rattle.spool.specs.Steps.{FirstGood}
-use Rattle.spool.specs.Theorems.{IsProgram, GoodLength, AllGood, Fate, keeps, replaces, loses, Salvaged, Spools}
+use Rattle.spool.specs.Salvage.{first_good, mended, mended_at, salvage_refusal, salvaging_as, salvaging}
+use Rattle.spool.specs.Theorems.{IsProgram, GoodLength, Fate, keeps, replaces, loses, Salvaged, Spools}
 use Rattle.spool.specs.declared.Answer.{Answer}
 use Rattle.spool.specs.declared.Answer.TheVariants.{Accepted, ProgramLength, SpoolLength, BlockCheck, BlockNumber, BlockCount, RoomLength}
 use Rattle.spool.proofs.Mending.{block_whole, by_mended, mended_whole}
 use Rattle.spool.proofs.Numbers.{length_good, look_block, salvage_all}
-use Rattle.spool.proofs.Parts.{front, front_ext, front_length, parts_back, Sizes, part_of}
+use Rattle.spool.proofs.Parts.{front, front_ext, front_length, parts_back, part_of}
 use Rattle.spool.proofs.Rooms.{put_length, put_rest}
 use Rattle.spool.proofs.Settles.{reading_number, reads_all, read_settles, no_block, writes_all, write_settles, salvaging_number, salvage_settles}
-use Rattle.spool.proofs.Whole.{spool_length, spool_blocks_is, spool_good, spool_all, spool_program, reads_program, reads_spool}
+use Rattle.spool.proofs.Whole.{spool_blocks_is, spool_good, spool_all, spool_program, reads_program, reads_spool}
 
 -- ---- the answers
 

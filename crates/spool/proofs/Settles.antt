@@ -1,12 +1,12 @@
 -- When each call answers each number.
-use Prim.Native.Nat.{ℕ, ◌+◌, ◌*◌, ◌/◌, ◌%◌, ◌<◌, ◌≤◌}
-use mathlib.Core.Bool.{Bool, true, false, not, cond, ◌&&◌, ◌||◌}
-use mathlib.Core.List.{List, flatten}
+use Prim.Native.Nat.{ℕ, ◌*◌, ◌%◌, ◌<◌, ◌≤◌}
+use mathlib.Core.Bool.{Bool, true, false, ◌&&◌}
+use mathlib.Core.List.{List}
 use mathlib.Core.Path.{◌≡◌, refl, sym, ap, ◌∙◌}
 use native.Mathlib.Omega.{arith}
 use lib.Dec.{eqb, ltb, leb}
 use lib.ListN.{length}
-use borrow.Author.Tests.{eq-eqb, ne_eqb, eqb-true, eqb-false, lt-ltb, le-ltb, ltb-true, ltb-false, leb-true, leb-false, le-leb}
+use borrow.Author.Tests.{eqb-true, eqb-false, ltb-true, ltb-false, leb-true, le-leb}
 use Rattle.endian.specs.Lists.{each}
 use Rattle.endian.proofs.Cases.{impossible}
 use Rattle.protocol.specs.Commands.{length_ok}
@@ -14,8 +14,8 @@ use Rattle.protocol.specs.Replies.{put_in}
 use Rattle.spool.specs.Answers.{Outcome, outcome, given}
 use Rattle.spool.specs.Reading.{blocks_in, refusal_at, earliest, bad_length, program_in, read_refusal, reading, look_refusal}
 use Rattle.spool.specs.Writing.{spool_blocks, spool_of, write_refusal, writing}
-use Rattle.spool.specs.Salvage.{mended_at, salvage_refusal, Salvaging, salvaging_as, salvaging}
-use Rattle.spool.specs.Theorems.{IsProgram, GoodLength, AllGood, ReadSettles, WriteSettles, SalvageSettles}
+use Rattle.spool.specs.Salvage.{salvage_refusal, Salvaging, salvaging_as, salvaging}
+use Rattle.spool.specs.Theorems.{IsProgram, GoodLength, ReadSettles, WriteSettles, SalvageSettles}
 use Rattle.spool.proofs.Firsts.{earliest_at, earliest_none, all_zero_is}
 use Rattle.spool.proofs.Numbers.{good_length, length_good, look_length, look_behind, read_length, read_room, read_blocks, write_length, write_room, write_fits, salvage_length, salvage_spares, salvage_room, salvage_fits, salvage_refused, salvage_all, earliest_fault, given_refused, given_all}
 

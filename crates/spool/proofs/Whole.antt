@@ -1,14 +1,14 @@
 -- A spool that was written reads, and a spool that reads was written.
-use Prim.Native.Nat.{ℕ, suc, ◌+◌, ◌-◌, ◌*◌, ◌/◌, ◌%◌, ◌^◌, ◌<◌, ◌≤◌, min}
+use Prim.Native.Nat.{ℕ, suc, ◌+◌, ◌-◌, ◌*◌, ◌<◌, ◌≤◌, min}
 use mathlib.Core.Bool.{Bool, true, false}
-use mathlib.Core.List.{List, [], ◌∷◌, ◌++◌}
+use mathlib.Core.List.{List}
 use mathlib.Core.Path.{◌≡◌, refl, sym, ap, subst, ◌∙◌}
 use native.Mathlib.Omega.{arith}
 use lib.Dec.{eqb}
-use lib.ListN.{length, take, drop, length-take, length-drop}
+use lib.ListN.{length, drop, length-take, length-drop}
 use borrow.Author.Tests.{eqb-true, eqb-false}
-use Rattle.endian.specs.Lists.{each, Bytes}
-use Rattle.spool_block.specs.Block.{count_in, used_in, block_refusal}
+use Rattle.endian.specs.Lists.{Bytes}
+use Rattle.spool_block.specs.Block.{count_in, used_in}
 use Rattle.spool_block.specs.Making.{block_of}
 use Rattle.spool_block.specs.Theorems.{CountFits}
 use Rattle.spool_block.proofs.Proved.{blocks, all_take, all_drop}

@@ -1,10 +1,10 @@
 -- What is proved about spools besides the promises. The proof is `spools` in proofs/Proved.antt.
-use Rattle.std.specs.Prelude.{ℕ, ◌+◌, ◌*◌, ◌%◌, ◌<◌, ◌≤◌, ◌≡◌, ◌↔◌, List, [], ◌∷◌, length, take, drop, get_or}
+use Rattle.std.specs.Prelude.{ℕ, ◌*◌, ◌%◌, ◌<◌, ◌≤◌, ◌≡◌, ◌↔◌, List, [], ◌∷◌, length, take, drop, get_or}
 use Rattle.endian.specs.Lists.{zeros, Bytes}
 use Rattle.protocol.specs.Replies.{put_in}
 use Rattle.spool_block.specs.Block.{block_refusal}
 use Rattle.spool.specs.Answers.{number_of, outcome}
-use Rattle.spool.specs.Reading.{blocks_in, block_at, refusal_at, program_in, reading, look_refusal}
+use Rattle.spool.specs.Reading.{blocks_in, block_at, refusal_at, reading, look_refusal}
 use Rattle.spool.specs.Writing.{spool_blocks, spool_of, writing}
 use Rattle.spool.specs.Salvage.{salvaging_as, salvaging}
 use Rattle.spool.specs.declared.Answer.{Answer}

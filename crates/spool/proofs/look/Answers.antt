@@ -1,7 +1,6 @@
 -- A look gives one of the numbers that have an answer.
 use mathlib.Core.Path.{◌∙◌}
 use Rattle.spool.proofs.Numbers.{look_range}
-use borrow.Author.Rules.{rules}
 use Rattle.spool.proofs.look.Goals as goal
 
 pub answer_of-requires : goal.answer_of-requires

@@ -1,6 +1,4 @@
 -- The answer's number is told.
-use Rattle.spool.specs.Salvage.{salvaging_as}
-use borrow.Author.Rules.{rules}
 use Rattle.spool.proofs.mastfrap_spool_salvage.Goals as goal
 
 pub returns : goal.returns

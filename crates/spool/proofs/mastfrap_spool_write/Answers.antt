@@ -1,7 +1,5 @@
 -- What is told is what was done (`told`).
-use mathlib.Core.Path.{◌∙◌}
 use Rattle.spool.proofs.Numbers.{told}
-use borrow.Author.Rules.{rules}
 use Rattle.spool.proofs.mastfrap_spool_write.Goals as goal
 
 pub returns : goal.returns

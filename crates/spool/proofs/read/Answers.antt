@@ -1,13 +1,10 @@
 -- Each way's number is that of its tests (`Numbers`), and what it leaves follows from the number.
-use mathlib.Core.Bool.{true, false}
-use mathlib.Core.Path.{◌≡◌, sym, ap, ◌∙◌}
+use mathlib.Core.Bool.{false}
+use mathlib.Core.Path.{◌≡◌, sym, ◌∙◌}
 use native.Mathlib.Omega.{arith}
 use lib.ListN.{length}
-use Rattle.endian.specs.Lists.{each}
-use Rattle.spool.specs.Answers.{outcome, given}
-use Rattle.spool.specs.Reading.{bad_length, read_refusal, reading, program_in, blocks_in, refusal_at, earliest}
+use Rattle.spool.specs.Reading.{bad_length, read_refusal, reading, program_in, blocks_in}
 use Rattle.spool.proofs.Numbers.{read_length, read_room, read_blocks, earliest_fault, given_refused, given_all}
-use borrow.Author.Rules.{rules}
 use Rattle.spool.proofs.read.Goals as goal
 
 pub returns-then-length_is_bad : goal.returns-then-length_is_bad

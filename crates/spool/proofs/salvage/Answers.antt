@@ -5,7 +5,6 @@ use native.Mathlib.Omega.{arith}
 use lib.ListN.{length}
 use Rattle.spool.specs.Reading.{bad_length}
 use Rattle.spool.proofs.Numbers.{salvage_length, salvage_spares, salvage_room, salvage_fits, salvage_refused, salvage_all}
-use borrow.Author.Rules.{rules}
 use Rattle.spool.proofs.salvage.Goals as goal
 
 pub returns-then-length_is_bad : goal.returns-then-length_is_bad

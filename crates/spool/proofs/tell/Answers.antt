@@ -1,7 +1,6 @@
 -- The count is written where the number is 0.
-use mathlib.Core.Path.{◌≡◌, sym, ◌∙◌}
-use borrow.Author.Tests.{eq-eqb, ne_eqb}
-use borrow.Author.Rules.{rules}
+use mathlib.Core.Path.{sym, ◌∙◌}
+use borrow.Author.Tests.{ne_eqb}
 use Rattle.spool.proofs.tell.Goals as goal
 
 pub returns-then-n-eq0 : goal.returns-then-n-eq0

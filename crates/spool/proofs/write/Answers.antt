@@ -1,14 +1,12 @@
 -- Each way's number is that of its tests (`Numbers`), and what it leaves follows from the number.
 use Prim.Native.Nat.{◌≤◌}
-use mathlib.Core.Bool.{true, false}
-use mathlib.Core.Path.{◌≡◌, sym, ap, ◌∙◌}
+use mathlib.Core.Bool.{true}
+use mathlib.Core.Path.{◌≡◌, sym, ◌∙◌}
 use native.Mathlib.Omega.{arith}
 use lib.ListN.{length}
-use borrow.Author.Tests.{not-true, not-false}
 use Rattle.protocol.specs.Commands.{length_ok}
 use Rattle.spool.specs.Writing.{write_refusal, writing, spool_of}
 use Rattle.spool.proofs.Numbers.{write_length, write_room, write_fits, given_refused, given_all, length_most}
-use borrow.Author.Rules.{rules}
 use Rattle.spool.proofs.write.Goals as goal
 
 pub returns-then-not-length_ok : goal.returns-then-not-length_ok

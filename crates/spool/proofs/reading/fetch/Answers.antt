@@ -1,11 +1,10 @@
 -- The part of the spool is the block, and what it uses is put.
 use Prim.Native.Nat.{◌+◌, ◌-◌, ◌*◌}
-use mathlib.Core.Path.{◌≡◌, ap, ◌∙◌}
+use mathlib.Core.Path.{◌≡◌, ap}
 use native.Mathlib.Omega.{arith}
 use lib.ListN.{length}
 use Rattle.spool_block.specs.Block.{used_in}
 use Rattle.spool.specs.Reading.{block_at}
-use borrow.Author.Rules.{rules}
 use Rattle.spool.proofs.reading.fetch.Goals as goal
 
 pub returns : goal.returns

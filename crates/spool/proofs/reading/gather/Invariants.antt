@@ -1,15 +1,12 @@
 -- Each turn puts what the next block uses behind what is there.
-use Prim.Native.Nat.{ℕ, ◌+◌, ◌-◌, ◌*◌, ◌≤◌}
+use Prim.Native.Nat.{ℕ, ◌-◌, ◌*◌, ◌≤◌}
 use mathlib.Core.List.{List}
-use mathlib.Core.Path.{◌≡◌, sym, ap, ◌∙◌}
-use native.Mathlib.Omega.{arith}
-use lib.ListN.{length, length-append}
+use mathlib.Core.Path.{◌≡◌}
+use lib.ListN.{length}
 use Rattle.protocol.specs.Replies.{put_in}
 use Rattle.spool_block.specs.Block.{used_in}
-use Rattle.spool.specs.Reading.{blocks_in, block_at, program_in}
-use Rattle.spool.proofs.Parts.{front, front_none, front_more, front_most, used_most}
-use Rattle.spool.proofs.Rooms.{put_none, put_length, put_next}
-use borrow.Author.Rules.{rules}
+use Rattle.spool.specs.Reading.{blocks_in, block_at}
+use Rattle.spool.proofs.Parts.{front, front_most, used_most}
 use Rattle.spool.proofs.reading.gather.Given as goal
 
 abbrev uses : List ℕ → ℕ → List ℕ

@@ -1,7 +1,6 @@
 -- Each branch's test is the definition's.
 use borrow.Author.Tests.{lt-ltb, le-ltb}
 use Rattle.spool.specs.Steps.{place_after}
-use borrow.Author.Rules.{rules}
 use Rattle.spool.proofs.reading.next_place.Goals as goal
 
 pub returns-then-place-spool : goal.returns-then-place-spool

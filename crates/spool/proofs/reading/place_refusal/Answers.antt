@@ -4,7 +4,6 @@ use mathlib.Core.Path.{◌≡◌, sym, ◌∙◌}
 use native.Mathlib.Omega.{arith}
 use Rattle.spool.specs.Reading.{refusal_at}
 use Rattle.spool.proofs.Numbers.{look_length, look_behind, look_block}
-use borrow.Author.Rules.{rules}
 use Rattle.spool.proofs.reading.place_refusal.Goals as goal
 
 pub returns-then-length_is_bad : goal.returns-then-length_is_bad

@@ -1,5 +1,5 @@
-use Prim.Native.Nat.{ℕ, ◌+◌, ◌-◌, ◌*◌, ◌/◌, ◌≤◌, ◌<◌}
-use mathlib.Core.Bool.{false}
+-- A place is mended as in the spool as it was (`turn`), and its entry stands behind those before it (`report_more`).
+use Prim.Native.Nat.{ℕ, ◌+◌, ◌*◌, ◌≤◌, ◌<◌}
 use mathlib.Core.List.{List, [], ◌∷◌, ◌++◌}
 use mathlib.Core.Path.{◌≡◌, sym, ap, subst, ◌∙◌}
 use native.Mathlib.Omega.{arith}
@@ -8,14 +8,19 @@ use lib.ListN.{length, take, drop, set}
 use Rattle.endian.specs.Lists.{each, put_at}
 use Rattle.endian.proofs.Lists.{each_snoc, length_each}
 use Rattle.protocol.specs.Replies.{put_in}
-use Rattle.spool.specs.Reading.{blocks_in, block_at, bad_length}
+use Rattle.spool.specs.Reading.{blocks_in, block_at}
 use Rattle.spool.specs.Salvage.{Mended, mended_at}
 use Rattle.spool.proofs.Mending.{block_whole, mended_whole, same_place}
 use Rattle.spool.proofs.Numbers.{good_length}
 use Rattle.spool.proofs.Parts.{front, front_none, front_more, front_length}
 use Rattle.spool.proofs.Rooms.{put_none, put_all, put_length, put_rest, put_next, put_entry}
-use borrow.Author.Rules.{rules}
 use Rattle.spool.proofs.salvaging.mend_all.Goals as goal
+
+abbrev blocks : List ℕ → List ℕ → ℕ → List ℕ
+blocks s x i = (mended_at s x i).block
+
+abbrev entries : List ℕ → List ℕ → ℕ → ℕ
+entries s x i = (mended_at s x i).entry
 
 -- a spool of which i places are mended
 module _ (s x : List ℕ) (i : ℕ) (within : i ≤ blocks_in s) where
@@ -47,39 +52,16 @@ module _ (s x : List ℕ) (i : ℕ) (within : i ≤ blocks_in s) where
             ∙ ap (put_in s) (sym (front_more i (blocks s x))),
       )
 
-abbrev blocks : List ℕ → List ℕ → ℕ → List ℕ
-blocks s x i = (mended_at s x i).block
-
-abbrev entries : List ℕ → List ℕ → ℕ → ℕ
-entries s x i = (mended_at s x i).entry
-
 report_more : (old : List ℕ) (f : ℕ → ℕ) (i : ℕ) → i < length old → set (put_in old (each i f)) i (f i) ≡ put_in old (each (i + 1) f)
 report_more old f i h =
     let l = length_each i f in
     let e : each (i + 1) f ≡ each i f ++ f i ∷ [] = ap (λ (k : ℕ). each k f) (add-one i) ∙ each_snoc i f in
     ap (λ (k : ℕ). set (put_in old (each i f)) k (f i)) (sym l) ∙ put_entry old (each i f) (f i) (omega arith) ∙ ap (put_in old) (sym e)
 
--- the report is as long as it was
-report_length : (old : List ℕ) (f : ℕ → ℕ) (i : ℕ) → i ≤ length old → length (put_in old (each i f)) ≡ length old
-report_length old f i h = let l = length_each i f in put_length old (each i f) (omega arith)
-
 pub loop-i-init : goal.loop-i-init
 loop-i-init c =
     let a = c.args in
     (omega arith, rw (front_none (blocks a.spool.now a.spares.now)) (sym (put_none a.spool.now)), sym (put_none a.report.now))
-
-pub mend-requires : goal.mend-requires
-mend-requires c =
-    let s = c.args.spool.now in
-    let e : length c.loop-i.spool ≡ length s = rw c.loop-i.invariant.1 (same_size s c.args.spares.now c.loop-i.i c.loop-i.invariant.0) in
-    rw e (c.requires.0, c.loop-i-test.true)
-
-pub bounds-report-i : goal.bounds-report-i
-bounds-report-i c =
-    let a = c.args in
-    let e : length c.loop-i.report ≡ length a.report.now =
-    rw c.loop-i.invariant.2 (report_length a.report.now (entries a.spool.now a.spares.now) c.loop-i.i (omega (arith, c.requires.1, c.loop-i.invariant.0))) in
-    omega (arith, c.requires.1)
 
 pub loop-i-preserved : goal.loop-i-preserved
 loop-i-preserved c =
@@ -90,16 +72,6 @@ loop-i-preserved c =
     let h : i < blocks_in s = c.loop-i-test.true in
     let t = turn s x i c.loop-i.invariant.0 h c.loop-i.spool _ [] c.mend.result c.loop-i.invariant.1 c.mend.ensures in
     (omega arith, t.1, rw (t.0, c.loop-i.invariant.2) (report_more a.report.now (entries s x) i (omega (arith, c.requires.1))))
-
-pub shape_of-spool : goal.shape_of-spool
-shape_of-spool c =
-    let a = c.args in
-    rw c.loop-i.invariant.1 (same_size a.spool.now a.spares.now c.loop-i.i c.loop-i.invariant.0)
-
-pub shape_of-report : goal.shape_of-report
-shape_of-report c =
-    let a = c.args in
-    rw c.loop-i.invariant.2 (report_length a.report.now (entries a.spool.now a.spares.now) c.loop-i.i (omega (arith, c.requires.1, c.loop-i.invariant.0)))
 
 pub returns : goal.returns
 returns c =
