@@ -1,49 +1,10 @@
 -- All blocks before the one that a turn looks at are good.
-use Prim.Native.Nat.{ℕ, zero, suc, ◌+◌, ◌-◌, ◌≤◌, ◌<◌}
-use mathlib.Core.Bool.{Bool, true, false}
-use mathlib.Core.List.{List}
-use mathlib.Core.Path.{◌≡◌, refl, ap, sym, ◌∙◌}
-use native.Mathlib.Omega.{arith}
-use native.Mathlib.Nat.{le_of_suc-le-suc}
-use lib.Dec.{eqb}
-use borrow.Author.Tests.{eq-eqb, ne_eqb, eqb-true, eqb-false}
-use Rattle.endian.specs.Lists.{each}
+use Rattle.std.proofs.Common.{◌≡◌, ℕ, ◌-◌, ◌≤◌, ◌<◌}
 use Rattle.spool.specs.Reading.{blocks_in, look_refusal}
-use Rattle.spool_words.specs.Words.{zeros_before, good_before}
-use borrow.Author.Rules.{rules}
 use Rattle.spool_words.proofs.good_before.Given as goal
 
-before_at : (n i : ℕ) (f : ℕ → ℕ) → i < n → ((j : ℕ) → j < i → f j ≡ 0) → (f i ≡ 0 → ⊥) → zeros_before (each n f) ≡ i
-unfolding zeros_before
-before_at zero i f h z e = absurd (omega arith)
-before_at (suc n) zero f h z e = rw (ne_eqb (f 0) 0 e)
-before_at (suc n) (suc i) f h z e =
-    rw (eq-eqb (f 0) 0 (z 0 (omega arith)))
-    (ap suc (before_at n i (λ j. f (suc j)) (le_of_suc-le-suc h) (λ j k. z (suc j) (omega arith)) e))
-
-before_all : (n : ℕ) (f : ℕ → ℕ) → ((j : ℕ) → j < n → f j ≡ 0) → zeros_before (each n f) ≡ n
-unfolding zeros_before
-before_all zero f z = refl
-before_all (suc n) f z =
-    rw (eq-eqb (f 0) 0 (z 0 (omega arith))) (ap suc (before_all n (λ j. f (suc j)) (λ j h. z (suc j) (omega arith))))
-
-abbrev Good : List ℕ → ℕ → Type 0
-Good s i = (j : ℕ) → j < i → look_refusal s j ≡ 0
-
-good_more : (s : List ℕ) (i : ℕ) → Good s i → look_refusal s i ≡ 0 → Good s (i + 1)
-good_more s i z e j h = go (eqb j i) refl
-  where
-    go : (t : Bool) → eqb j i ≡ t → look_refusal s j ≡ 0
-    go true p = rw (eqb-true j i p) e
-    go false p = z j (omega (arith, eqb-false j i p))
-
--- the number of what a turn looks at
-looked : (c : tie.After-answer-number invariant-loop decreases-loop) → (let l = c.before.before.before in
-    c.answer-number.result ≡ look_refusal l.before.before.args.bytes.now l.loop.i)
-looked c = c.answer-number.ensures ∙ c.before.look.ensures
-
 abbrev pub invariant-loop-i : goal.invariant-loop-i
-invariant-loop-i l = (l.i ≤ blocks_in l.bytes) × Good l.bytes l.i
+invariant-loop-i l = (l.i ≤ blocks_in l.bytes) × ((j : ℕ) → j < l.i → look_refusal l.bytes j ≡ 0)
 
 abbrev pub decreases-loop-i : goal.decreases-loop-i
 decreases-loop-i l = blocks_in l.bytes - l.i

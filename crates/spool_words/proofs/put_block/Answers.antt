@@ -1,6 +1,5 @@
 -- Part by part.
 use Rattle.text.proofs.Texts.{then}
-use borrow.Author.Rules.{rules}
 use Rattle.spool_words.proofs.put_block.Goals as goal
 
 pub returns : goal.returns

@@ -1,5 +1,4 @@
 -- Each has its words.
-use borrow.Author.Rules.{rules}
 use Rattle.spool_words.proofs.put_fault.Goals as goal
 
 pub returns-in-Accepted : goal.returns-in-Accepted

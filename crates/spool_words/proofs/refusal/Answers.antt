@@ -4,11 +4,9 @@ use mathlib.Core.List.{List}
 use mathlib.Core.Path.{◌≡◌, sym, ap, ◌∙◌}
 use borrow.Author.Tests.{eq-eqb, ne_eqb}
 use Rattle.text.specs.Text.{text_of}
-use Rattle.text.specs.declared.Text.{Text}
 use Rattle.text.proofs.Texts.{from_empty}
 use Rattle.spool.specs.Reading.{look_refusal}
 use Rattle.spool_words.specs.Words.{fault_words, block_words, good_before, refusal_words}
-use borrow.Author.Rules.{rules}
 use Rattle.spool_words.proofs.refusal.Goals as goal
 
 -- the words of the length and of a block, with place and number as the calls give them
