@@ -1,4 +1,4 @@
--- A short block has no whole check (`short-check`).
+-- A short block has no whole check (`short_check`).
 use mathlib.Core.Path.{sym}
 use Rattle.spool_block.proofs.Blocks.{short_check, bad_check}
 use Rattle.spool_block.proofs.refusal.Goals as goal

@@ -1,4 +1,4 @@
--- The front, then the program bytes behind it (`unchecked-block`).
+-- The front, then the program bytes behind it (`unchecked_block`).
 use Rattle.spool_block.proofs.Made.{unchecked_block}
 use Rattle.spool_block.proofs.unchecked.Goals as goal
 
