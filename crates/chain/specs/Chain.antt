@@ -1,5 +1,5 @@
 -- Change request 7: a chain of starts, each after a reset by the program before it, and the CDI that is worked out for its end. The reset is the one that
--- the promise of `reset` cites (`resetting`), a start is one of `verified-boot` (session, specs/Boot.antt).
+-- the promise of `reset` cites (`resetting`), a start is one of `verified_boot` (session, specs/Boot.antt).
 use Rattle.std.specs.Prelude.{ℕ, ◌≡◌, true}
 use Rattle.std.proofs.Math.Option.{Option, none, some}
 use mathlib.Core.List.{List, [], ◌∷◌, ◌++◌, map, foldl}

@@ -1,4 +1,4 @@
--- A monitor, byte by byte: change request 13. The head's own gathering (`gathered`) and table of commands (`requestOf`), and what acting does but for
+-- A monitor, byte by byte: change request 13. The head's own gathering (`gathered`) and table of commands (`request_of`), and what acting does but for
 -- replies, CDI and RAM: the bytes that blocks carry are hashed in parts. What comes of it is said by demand 3's reading in the crate `reasons`.
 use Rattle.std.specs.Prelude.{ℕ, ◌+◌, ◌-◌, ◌^◌, Bool, true, false, not, cond, ◌&&◌, List, [], ◌∷◌, eqb, ltb, length, take}
 use Rattle.endian.specs.Lists.{zeros}

@@ -1,4 +1,4 @@
--- The theorem of specs/Theorems.antt. Each claim about a call is shown for each way that it can go (`by-begin`, `by-gather`, `by-act`).
+-- The theorem of specs/Theorems.antt. Each claim about a call is shown for each way that it can go (`by_begin`, `by_gather`, `by_act`).
 use Prim.Native.Nat.{ℕ, ◌+◌, ◌≤◌}
 use mathlib.Core.Bool.{Bool, true, false, cond}
 use mathlib.Core.Path.{◌≡◌, refl, sym, ap, ◌∙◌}

@@ -1,6 +1,6 @@
 -- Known answers: loads, records, replies, strings, begins, calls and states as literal bytes, beside document 01. What a load, a record, a reply
 -- and a string are no theorem about sessions can fix, since a head and a reading of the same bytes would share the mistake; begins and calls are
--- examples of what `flash-exactly`, `table` and `whole-when` of `session` say of all. The proof is `known-answers` in proofs/KnownAnswers.antt.
+-- examples of what `flash_exactly`, `table` and `whole_when` of `session` say of all. The proof is `known_answers` in proofs/KnownAnswers.antt.
 use Rattle.std.specs.Prelude.{ℕ, ◌+◌, ◌≡◌, true, false, List, [], ◌∷◌, ◌++◌, length, take}
 use Rattle.std.proofs.Math.Option.{Option, none, some}
 use Rattle.protocol.specs.Commands.{load_in, good_load}

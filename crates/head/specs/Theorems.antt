@@ -1,4 +1,4 @@
--- What is proved about the calls, besides the promises of `begin`, `gather` and `act`. The proof is `head-theorems` in proofs/Proved.antt.
+-- What is proved about the calls, besides the promises of `begin`, `gather` and `act`. The proof is `head_theorems` in proofs/Proved.antt.
 use Rattle.std.specs.Prelude.{ℕ, ◌+◌, ◌≤◌, ◌≡◌, ◌↔◌, ◌⊎◌, true, false, cond, List, [], ◌∷◌, eqb, length, take, drop}
 use Rattle.std.proofs.Math.Seq.{paste}
 use Rattle.framing.specs.Header.{good, header_at}

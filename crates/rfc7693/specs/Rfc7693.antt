@@ -130,7 +130,7 @@ mixing m s v i =
     let p = get_or positions i [] in
     G v (get_or p 0 0) (get_or p 1 0) (get_or p 2 0) (get_or p 3 0) (selected m s (2 * i)) (selected m s (2 * i + 1))
 
--- what is proved of it (`by-table` of `hashing`): the mixings at its rows, from the first to the last, are the round as printed
+-- what is proved of it (`by_table` of `hashing`): the mixings at its rows, from the first to the last, are the round as printed
 abbrev pub TableRound : Type 0
 TableRound = (m s v : List ℕ) → foldl (mixing m s) v (each (length positions) (λ i. i)) ≡ round m s v
 

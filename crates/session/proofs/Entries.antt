@@ -43,7 +43,7 @@ among_none e i = go i.before i.place
 
 -- ---- the last of a list of calls
 
--- `lastIs` from the first call on, where b says it of the call before that
+-- `last_is` from the first call on, where b says it of the call before that
 abbrev pub last_from : (Entry → Bool) → Bool → List Entry → Bool
 last_from p b [] = b
 last_from p b (e ∷ es) = last_from p (p e) es

@@ -1,6 +1,6 @@
 -- Verified boot (document 01: demand 3, with change requests 3 and 6): when a session has started, when begin starts a program from flash, what a start
 -- gives, what two starts with one string share, when a call is refused, when a frame is whole, and that there are starts. docs/PROMISES.md reads it
--- beside document 01. The proof is `verified-boot` in proofs/Proved.antt.
+-- beside document 01. The proof is `verified_boot` in proofs/Proved.antt.
 use Rattle.std.specs.Prelude.{ℕ, ◌≤◌, ◌≡◌, ◌↔◌, Bool, true, false, cond, ◌||◌, eqb, length, get_or, take, drop}
 use Rattle.std.proofs.Math.Option.{Option, none, some}
 use mathlib.Core.List.{List, [], ◌∷◌, ◌++◌, flatten}
@@ -33,7 +33,7 @@ abbrev pub Reads : Session → Type 0
 Reads S = Starting S.reset.rec S.reset.flash.built_in (ram_len S) (gathered_bytes (accepted_of S))
 
 -- and the last block was acted on: the last accepted call is an acting. Where the bytes read as those of a start, the last of them made the last
--- block whole (`whole-when`), and while it is whole only an acting is accepted (`table`): so this one is on that block
+-- block whole (`whole_when`), and while it is whole only an acting is accepted (`table`): so this one is on that block
 abbrev pub ActedOn : Session → Type 0
 ActedOn S = last_is is_acting (accepted_of S) ≡ true
 

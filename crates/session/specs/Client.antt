@@ -1,5 +1,5 @@
 -- The server's half against the head: change request 1. The frames are those that the promise of `make_frame` cites, the replies are read as that of
--- `read_reply` says, and the head is a session of specs/Session.antt. The proof is `client-load` in proofs/Client.antt.
+-- `read_reply` says, and the head is a session of specs/Session.antt. The proof is `client_load` in proofs/Client.antt.
 use Rattle.std.specs.Prelude.{ℕ, zero, suc, ◌≤◌, ◌≡◌, ◌↔◌, true, false, cond, eqb, length, get_or, take, drop}
 use mathlib.Core.List.{List, [], ◌∷◌, ◌++◌, flatten}
 use Rattle.rfc7693.specs.Rfc7693.{blake2s}

@@ -1,4 +1,4 @@
--- A message of at most 97 bytes is never refused (`digest-32`).
+-- A message of at most 97 bytes is never refused (`digest_32`).
 use mathlib.Core.Path.{refl, ◌∙◌}
 use native.Mathlib.Omega.{arith}
 use lib.ListN.{replicate}

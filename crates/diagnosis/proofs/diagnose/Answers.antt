@@ -1,4 +1,4 @@
--- A monitor that has heard nothing has room for every slice (`room-first`).
+-- A monitor that has heard nothing has room for every slice (`room_first`).
 use mathlib.Core.Bool.{true}
 use mathlib.Core.Path.{◌≡◌, sym, ap, subst, ◌∙◌}
 use native.Mathlib.Omega.{arith}

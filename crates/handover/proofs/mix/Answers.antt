@@ -1,4 +1,4 @@
--- The two parts fill the buffer, and a message of 64 bytes is never refused (`digest-32`).
+-- The two parts fill the buffer, and a message of 64 bytes is never refused (`digest_32`).
 use mathlib.Core.Path.{refl, ap, ◌∙◌}
 use mathlib.Core.List.{List, [], ◌++◌}
 use Prim.Native.Nat.{ℕ}

@@ -1,4 +1,4 @@
--- The fields are those of the definition: the key is copied to the front of zeros (`copied-padded`).
+-- The fields are those of the definition: the key is copied to the front of zeros (`copied_padded`).
 use Rattle.blake2s.specs.Stream.{begun}
 use Rattle.blake2s.proofs.Contexts.{copied_padded}
 use Rattle.blake2s.proofs.stream.begun.Goals as goal

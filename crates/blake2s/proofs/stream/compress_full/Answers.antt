@@ -1,4 +1,4 @@
--- The laws for a part for which the block has room (`state-short`) and for a longer one (`state-long`), with what the calls ensure.
+-- The laws for a part for which the block has room (`state_short`) and for a longer one (`state_long`), with what the calls ensure.
 use mathlib.Core.Path.{◌≡◌, refl, sym}
 use Prim.Native.Nat.{◌-◌, ◌<◌}
 use native.Mathlib.Omega.{arith}

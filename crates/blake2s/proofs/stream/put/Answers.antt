@@ -1,4 +1,4 @@
--- The bytes, and zeros behind them (`put-padded`).
+-- The bytes, and zeros behind them (`put_padded`).
 use native.Mathlib.Omega.{arith}
 use lib.ListN.{length}
 use lib.Seq.{length-paste}

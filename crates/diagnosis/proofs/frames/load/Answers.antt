@@ -1,4 +1,4 @@
--- The load is read and tested as the definition does it (`load-taken`, `load-left`).
+-- The load is read and tested as the definition does it (`load_taken`, `load_left`).
 use mathlib.Core.Path.{◌∙◌}
 use Rattle.diagnosis.proofs.Steps.{load_taken, load_left}
 use Rattle.diagnosis.proofs.frames.load.Goals as goal

@@ -1,4 +1,4 @@
--- What gathering the byte answers says which case of the definition it is (`heard-as`).
+-- What gathering the byte answers says which case of the definition it is (`heard_as`).
 use mathlib.Core.Path.{◌≡◌, sym, ap, ◌∙◌}
 use Rattle.head.specs.Act.{request_of}
 use Rattle.head.specs.Answers.{report_of}
