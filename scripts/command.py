@@ -114,8 +114,8 @@ def named_otherwise(words):
     word it is. A Rattle program opens no such name. What is here is only the place of a file: the program opens it, and says why if it cannot."""
     for place, word in enumerate(words, 11):
         try:
-            word.encode()
-        except UnicodeEncodeError:
+            os.fsencode(word).decode()
+        except UnicodeDecodeError:
             with contextlib.suppress(OSError):
                 yield place, os.open(word, os.O_PATH)
 
