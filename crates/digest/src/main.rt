@@ -135,7 +135,9 @@ fn after(rt: &HostRuntime, answer: Answer, name: &[u8]) -> Step {
     let Answer::Accepted = answer else {
         let _ = rt.stderr().write_all(b"digest: ");
         let _ = rt.stderr().write_all(name);
-        let _ = rt.stderr().write_all(b": it has more than 4294967295 bytes\n");
+        let _ = rt
+            .stderr()
+            .write_all(b": it has more than 4294967295 bytes\n");
         return Step::Failed;
     };
     Step::More

@@ -36,7 +36,13 @@ fn open_output(rt: &HostRuntime) -> io::Result<File> {
 }
 
 // Sends frames and reads replies until the load is over.
-pub fn converse(rt: &HostRuntime, line: &mut Line, program: &[u8], job: Job, secret: Secret) -> Turn {
+pub fn converse(
+    rt: &HostRuntime,
+    line: &mut Line,
+    program: &[u8],
+    job: Job,
+    secret: Secret,
+) -> Turn {
     let terminal = rt.stderr().is_terminal();
     let began = now(rt);
     let mut t = upload::open(job);
@@ -105,7 +111,10 @@ fn show(rt: &HostRuntime, terminal: bool, len: usize, k: u32, next: Next, began:
 }
 
 fn show_progress(rt: &HostRuntime, len: usize, done: u32, began: u64) {
-    let _ = text::write(&mut rt.stderr(), messages::progress(len, done, since(rt, began)));
+    let _ = text::write(
+        &mut rt.stderr(),
+        messages::progress(len, done, since(rt, began)),
+    );
 }
 
 // In seconds; 0 where the system does not know.

@@ -83,7 +83,13 @@ fn run<F: Read>(
 }
 
 // Begins, and shows what came of it.
-fn begin<'a>(rt: &HostRuntime, device: Device, slot0: &'a [u8], slot1: &'a [u8], ram: &mut [u8]) -> Head {
+fn begin<'a>(
+    rt: &HostRuntime,
+    device: Device,
+    slot0: &'a [u8],
+    slot1: &'a [u8],
+    ram: &mut [u8],
+) -> Head {
     let record = device.record;
     let udi = device.udi;
     let built_in = device.built_in;

@@ -1,6 +1,4 @@
 -- How many calls are left is the measure.
-use native.Mathlib.Omega.{arith}
-use borrow.Author.Rules.{rules}
 use Rattle.test_calls.proofs.main.Given as goal
 
 abbrev pub invariant-loop-left : goal.invariant-loop-left

@@ -1,5 +1,5 @@
 -- The invariant bounds the index and keeps the lengths of what is lent; how many bytes are left is the measure.
-use Rattle.std.proofs.Common.{◌≡◌, ◌-◌, ◌≤◌, length, refl, ap, ◌∙◌, ⊎_elim, arith, rules}
+use Rattle.std.proofs.Common.{◌≡◌, ◌-◌, ◌≤◌, length}
 use Rattle.bench_load.proofs.cable.play.Given as goal
 
 abbrev pub invariant-loop-i : goal.invariant-loop-i

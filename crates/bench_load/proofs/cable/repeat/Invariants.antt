@@ -1,5 +1,5 @@
 -- The invariant keeps RAM's length, and how often is still to be loaded is the measure.
-use Rattle.std.proofs.Common.{◌≡◌, length, refl, rules}
+use Rattle.std.proofs.Common.{◌≡◌, length}
 use Rattle.bench_load.proofs.cable.repeat.Given as goal
 
 abbrev pub invariant-loop-left : goal.invariant-loop-left

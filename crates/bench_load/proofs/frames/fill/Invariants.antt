@@ -1,5 +1,5 @@
 -- The invariant bounds the index and keeps the length; what is left of the slice is the measure.
-use Rattle.std.proofs.Common.{◌≡◌, ◌-◌, ◌≤◌, length, refl, arith, length-set, rules}
+use Rattle.std.proofs.Common.{◌≡◌, ◌-◌, ◌≤◌, length}
 use Rattle.bench_load.proofs.frames.fill.Given as goal
 
 abbrev pub invariant-loop-i : goal.invariant-loop-i

@@ -14,6 +14,6 @@ loop-over-smaller c =
     let a = c.advance-u.result in
     let over = c.is_over-over-in-loop-over in
     let f : is_over a.next ≡ false → left c.args.job a.exchange < left c.args.job x =
-        rw c.advance-u.ensures (fewer c.args.job x c.event-event.result) in
+    rw c.advance-u.ensures (fewer c.args.job x c.event-event.result) in
     less c.loop-over.over over.result (left c.args.job x) (left c.args.job a.exchange) c.loop-over-test.true
     (λ h. f (sym over.ensures ∙ h))
