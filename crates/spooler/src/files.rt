@@ -1,43 +1,52 @@
 // The files that the arguments name, and what is said of one that is not taken.
 use input::Contents;
-use libc::STDERR_FILENO;
+use std::io;
 use text::Text;
 
 // The exit status where a file cannot be read, or has a bad length.
 pub const BAD_FILE: u32 = 3;
 
-fn begin_line(name: &[u8]) {
-    io::write_all(STDERR_FILENO, b"spool: ");
-    io::write_all(STDERR_FILENO, name);
-    io::write_all(STDERR_FILENO, b": ");
+fn begin_line(rt: &HostRuntime, name: &[u8]) {
+    let _ = rt.stderr().write_all(b"spool: ");
+    let _ = rt.stderr().write_all(name);
+    let _ = rt.stderr().write_all(b": ");
 }
 
 // Says why a file cannot be read, as errno does.
-fn fail(name: &[u8]) {
-    begin_line(name);
-    os::fail(b"cannot be read");
+fn fail(rt: &HostRuntime, name: &[u8], why: io::Error) {
+    begin_line(rt, name);
+    input::fail(rt, &mut rt.stderr(), b"cannot be read", why);
 }
 
 // Reads the file that argument i names into buf, to its end or as much as there is room for. Where it cannot be read, that is said.
-pub fn read(i: usize, buf: &mut [u8]) -> Contents {
-    let mut name = io::buffer();
-    let n = os::arg(i, &mut name);
-    if os::errno() != 0 {
-        fail(&name);
-        return Contents::Unreadable;
+pub fn read(rt: &HostRuntime, i: usize, buf: &mut [u8]) -> Contents {
+    let mut name = input::buffer();
+    match input::name_at(rt, i, &mut name) {
+        Err(why) => {
+            fail(rt, &name, why);
+            Contents::Unreadable(why)
+        }
+        Ok(n) => read_named(rt, i, &name[..n], buf),
     }
-    let contents = input::read(&name[..n], buf);
-    if let Contents::Unreadable = contents {
-        fail(&name[..n]);
+}
+
+fn read_named(rt: &HostRuntime, i: usize, name: &[u8], buf: &mut [u8]) -> Contents {
+    let contents = input::read(rt, i, name, buf);
+    if let Contents::Unreadable(why) = contents {
+        fail(rt, name, why);
     }
     contents
 }
 
 // Says why the file that argument i names is not taken.
-pub fn refuse(i: usize, why: Text) {
-    let mut name = io::buffer();
-    let n = os::arg(i, &mut name);
-    begin_line(&name[..n]);
-    text::write(STDERR_FILENO, why);
-    io::write_all(STDERR_FILENO, b"\n");
+pub fn refuse(rt: &HostRuntime, i: usize, why: Text) {
+    let mut name = input::buffer();
+    let n = input::name_at(rt, i, &mut name).unwrap_or(0);
+    refuse_named(rt, &name[..n], why);
+}
+
+fn refuse_named(rt: &HostRuntime, name: &[u8], why: Text) {
+    begin_line(rt, name);
+    let _ = text::write(&mut rt.stderr(), why);
+    let _ = rt.stderr().write_all(b"\n");
 }

@@ -9,79 +9,80 @@ mod mending;
 mod words;
 
 use input::Contents;
-use libc::{STDERR_FILENO, STDOUT_FILENO};
 use spool::Answer;
+use std::io;
 use text::Text;
 
 // The exit status where a block is bad, or lost.
 const BAD_BLOCK: u32 = 4;
 
-fn main() {
-    let number = run();
-    io::print_decimal(3, number as u64);
+fn main(rt: HostRuntime) {
+    let mut place = input::open_number(&rt);
+    let number = run(&rt);
+    input::give_number(&mut place, number);
 }
 
 // Answers the exit status.
-fn run() -> u32 {
-    let mut task = [0u8; 8];
-    let n = os::arg(1, &mut task);
-    perform(endian::first(&task, n))
+fn run(rt: &HostRuntime) -> u32 {
+    let mut task = input::buffer();
+    let n = input::name_at(rt, 1, &mut task).unwrap_or(0);
+    perform(rt, endian::first(&task, n))
 }
 
-fn perform(task: &[u8]) -> u32 {
+fn perform(rt: &HostRuntime, task: &[u8]) -> u32 {
     if endian::equal(task, b"write") {
-        return write();
+        return write(rt);
     }
     if endian::equal(task, b"read") {
-        return read();
+        return read(rt);
     }
     if endian::equal(task, b"check") {
-        return check();
+        return check(rt);
     }
-    mending::salvage()
+    mending::salvage(rt)
 }
 
 // ---- a program written
 
-fn write() -> u32 {
+fn write(rt: &HostRuntime) -> u32 {
     let mut file = input::program_room();
-    match files::read(2, &mut file) {
-        Contents::Unreadable => files::BAD_FILE,
-        Contents::Bytes(n) => write_spool(endian::first(&file, n)),
+    match files::read(rt, 2, &mut file) {
+        Contents::Unreadable(_) => files::BAD_FILE,
+        Contents::Bytes(n) => write_spool(rt, endian::first(&file, n)),
     }
 }
 
-fn write_spool(program: &[u8]) -> u32 {
+fn write_spool(rt: &HostRuntime, program: &[u8]) -> u32 {
     let mut room = input::spool_room();
     let done = spool::write(program, &mut room);
     let answer = done.answer;
     let Answer::Accepted = answer else {
-        files::refuse(2, words::refusal(answer));
+        files::refuse(rt, 2, words::refusal(answer));
         return files::BAD_FILE;
     };
-    deliver(endian::first(&room, done.len), line(done.len, program))
+    deliver(rt, endian::first(&room, done.len), line(done.len, program))
 }
 
 // ---- a spool read
 
-fn read() -> u32 {
+fn read(rt: &HostRuntime) -> u32 {
     let mut file = input::spool_room();
-    match files::read(2, &mut file) {
-        Contents::Unreadable => files::BAD_FILE,
-        Contents::Bytes(n) => read_program(endian::first(&file, n)),
+    match files::read(rt, 2, &mut file) {
+        Contents::Unreadable(_) => files::BAD_FILE,
+        Contents::Bytes(n) => read_program(rt, endian::first(&file, n)),
     }
 }
 
-fn read_program(bytes: &[u8]) -> u32 {
+fn read_program(rt: &HostRuntime, bytes: &[u8]) -> u32 {
     let mut room = input::program_room();
     let done = spool::read(bytes, &mut room);
     let answer = done.answer;
     let Answer::Accepted = answer else {
-        files::refuse(2, spool_words::refusal(bytes));
+        files::refuse(rt, 2, spool_words::refusal(bytes));
         return status(answer);
     };
     let program = endian::first(&room, done.len);
-    deliver(program, line(bytes.len(), program))
+    deliver(rt, program, line(bytes.len(), program))
 }
 
 // The exit status of a spool that does not read: a bad length is the file's, all else a block's.
@@ -94,51 +95,50 @@ fn status(answer: Answer) -> u32 {
 
 // ---- a spool checked
 
-fn check() -> u32 {
+fn check(rt: &HostRuntime) -> u32 {
     let mut file = input::spool_room();
-    match files::read(2, &mut file) {
-        Contents::Unreadable => files::BAD_FILE,
-        Contents::Bytes(n) => check_spool(endian::first(&file, n)),
+    match files::read(rt, 2, &mut file) {
+        Contents::Unreadable(_) => files::BAD_FILE,
+        Contents::Bytes(n) => check_spool(rt, endian::first(&file, n)),
     }
 }
 
 // The program is read only for its digest.
-fn check_spool(bytes: &[u8]) -> u32 {
+fn check_spool(rt: &HostRuntime, bytes: &[u8]) -> u32 {
     let mut room = input::program_room();
     let done = spool::read(bytes, &mut room);
     let answer = done.answer;
     match answer {
-        Answer::Accepted => written(text::write(
-            STDOUT_FILENO,
-            line(bytes.len(), endian::first(&room, done.len)),
-        )),
+        Answer::Accepted => {
+            let line = line(bytes.len(), endian::first(&room, done.len));
+            written(rt, text::write(&mut rt.stdout(), line))
+        }
         Answer::SpoolLength => {
-            files::refuse(2, words::refusal(answer));
+            files::refuse(rt, 2, words::refusal(answer));
             files::BAD_FILE
         }
-        _ => list_bad(bytes),
+        _ => list_bad(rt, bytes),
     }
 }
 
 // A line for each bad block.
-fn list_bad(bytes: &[u8]) -> u32 {
-    let n = bytes.len() / 512;
-    let mut ok = true;
-    let mut i: usize = 0;
-    while i < n && ok {
+fn list_bad(rt: &HostRuntime, bytes: &[u8]) -> u32 {
+    for i in 0..bytes.len() / 512 {
         let answer = spool::look(bytes, i);
-        ok = list_block(i, answer);
-        i += 1;
+        let listed = list_block(rt, i, answer);
+        if listed.is_err() {
+            return written(rt, listed);
+        }
     }
-    if ok { BAD_BLOCK } else { written(false) }
+    BAD_BLOCK
 }
 
-// Whether what is to be said of a block was written; of a good one that is nothing.
-fn list_block(place: usize, answer: Answer) -> bool {
+// Says what is to be said of a block; of a good one that is nothing.
+fn list_block(rt: &HostRuntime, place: usize, answer: Answer) -> io::Result<()> {
     if let Answer::Accepted = answer {
-        return true;
+        return Ok(());
     }
-    text::write(STDOUT_FILENO, words::bad(place, answer))
+    text::write(&mut rt.stdout(), words::bad(place, answer))
 }
 
 // ---- what is written
@@ -152,19 +152,21 @@ fn line(len: usize, program: &[u8]) -> Text {
 }
 
 // Bytes to standard output, and then their line to standard error.
-fn deliver(bytes: &[u8], line: Text) -> u32 {
-    let number = written(io::write_all(STDOUT_FILENO, bytes));
+fn deliver(rt: &HostRuntime, bytes: &[u8], line: Text) -> u32 {
+    let number = written(rt, rt.stdout().write_all(bytes));
     if number == 0 {
-        text::write(STDERR_FILENO, line);
+        let _ = text::write(&mut rt.stderr(), line);
     }
     number
 }
 
 // The exit status, by whether all was written to standard output.
-fn written(all: bool) -> u32 {
-    if !all {
-        os::fail(b"spool: standard output");
-        return 1;
+fn written(rt: &HostRuntime, all: io::Result<()>) -> u32 {
+    match all {
+        Ok(()) => 0,
+        Err(why) => {
+            input::fail(rt, &mut rt.stderr(), b"spool: standard output", why);
+            1
+        }
     }
-    0
 }

@@ -3,7 +3,6 @@ ghost use Rattle.std.specs.Prelude.{◌<◌, ◌≡◌, length};
 
 use super::{files, words};
 use input::Contents;
-use libc::{STDERR_FILENO, STDOUT_FILENO};
 use spool::Answer;
 
 // What salvage reports of a block.
@@ -13,22 +12,22 @@ const REPLACED: u8 = 1;
 
 const LOST: u8 = 2;
 
-pub fn salvage() -> u32 {
+pub fn salvage(rt: &HostRuntime) -> u32 {
     let mut file = input::spool_room();
-    match files::read(2, &mut file) {
-        Contents::Unreadable => files::BAD_FILE,
+    match files::read(rt, 2, &mut file) {
+        Contents::Unreadable(_) => files::BAD_FILE,
         Contents::Bytes(n) => {
             if 142336 < n {
-                return refuse(Answer::SpoolLength);
+                return refuse(rt, Answer::SpoolLength);
             }
-            with_spares(&mut file[..n])
+            with_spares(rt, &mut file[..n])
         }
     }
 }
 
 // Says what is wrong with the spool.
-fn refuse(answer: Answer) -> u32 {
-    files::refuse(2, words::refusal(answer));
+fn refuse(rt: &HostRuntime, answer: Answer) -> u32 {
+    files::refuse(rt, 2, words::refusal(answer));
     files::BAD_FILE
 }
 
@@ -42,42 +41,42 @@ fn spares_room() -> [u8; 4194305]
     [0; 4194305]
 }
 
-fn with_spares(bytes: &mut [u8]) -> u32 {
+fn with_spares(rt: &HostRuntime, bytes: &mut [u8]) -> u32 {
     let mut room = spares_room();
-    let n = read_spares(&mut room);
+    let n = read_spares(rt, &mut room);
     if 4194304 < n {
         return files::BAD_FILE;
     }
-    mend(bytes, endian::first(&room, n))
+    mend(rt, bytes, endian::first(&room, n))
 }
 
 // Reads the files behind the spool's, one behind the other, and answers how many bytes they are; as many as there is room for, where one is
 // not taken, and that was said.
-fn read_spares(room: &mut [u8]) -> usize {
-    let n = os::arg_count();
+fn read_spares(rt: &HostRuntime, room: &mut [u8]) -> usize {
     let mut at: usize = 0;
-    let mut i: usize = 3;
-    while i < n && at < room.len() {
-        at = read_more(i, room, at);
-        i += 1;
+    for i in 3..usize::MAX {
+        if !input::is_given(rt, i) || room.len() <= at {
+            return at;
+        }
+        at = read_more(rt, i, room, at);
     }
     at
 }
 
 // Reads the file that argument i names behind so many bytes, and answers how many they are then.
-fn read_more(i: usize, room: &mut [u8], at: usize) -> usize
+fn read_more(rt: &HostRuntime, i: usize, room: &mut [u8], at: usize) -> usize
     requires { at < length room.old }
 {
     let most = room.len();
-    let Contents::Bytes(n) = files::read(i, &mut room[at..]) else {
+    let Contents::Bytes(n) = files::read(rt, i, &mut room[at..]) else {
         return most;
     };
     if most - at <= n {
-        files::refuse(i, words::too_many());
+        files::refuse(rt, i, words::too_many());
         return most;
     }
     if n % 512 != 0 {
-        files::refuse(i, words::spares_length());
+        files::refuse(rt, i, words::spares_length());
         return most;
     }
     at + n
@@ -85,35 +84,34 @@ fn read_more(i: usize, room: &mut [u8], at: usize) -> usize
 
 // ---- the spool mended
 
-fn mend(bytes: &mut [u8], spares: &[u8]) -> u32 {
+fn mend(rt: &HostRuntime, bytes: &mut [u8], spares: &[u8]) -> u32 {
     let mut report = [0u8; 278];
     let answer = spool::salvage(bytes, spares, &mut report);
     let Answer::Accepted = answer else {
-        return refuse(answer);
+        return refuse(rt, answer);
     };
-    if !io::write_all(STDOUT_FILENO, bytes) {
-        return super::written(false);
+    let all = rt.stdout().write_all(bytes);
+    if all.is_err() {
+        return super::written(rt, all);
     }
-    tell(bytes, endian::first(&report, bytes.len() / 512))
+    tell(rt, bytes, endian::first(&report, bytes.len() / 512))
 }
 
 // What became of the blocks. The mended spool is written before it, also where blocks are lost, so that another salvage can go on from there.
-fn tell<'a>(bytes: &'a [u8], report: &'a [u8]) -> u32 {
+fn tell<'a>(rt: &HostRuntime, bytes: &'a [u8], report: &'a [u8]) -> u32 {
     let replaced = count(report, REPLACED);
     let lost = count(report, LOST);
-    text::write(
-        STDERR_FILENO,
-        words::counts(count(report, KEPT), replaced, lost),
-    );
-    list(bytes, report);
+    let counts = words::counts(count(report, KEPT), replaced, lost);
+    let _ = text::write(&mut rt.stderr(), counts);
+    list(rt, bytes, report);
     if lost != 0 {
         if replaced != 0 {
-            text::write(STDERR_FILENO, words::compare_later());
+            let _ = text::write(&mut rt.stderr(), words::compare_later());
         }
         return super::BAD_BLOCK;
     }
     if replaced != 0 {
-        tell_digest(bytes);
+        tell_digest(rt, bytes);
     }
     0
 }
@@ -130,29 +128,32 @@ fn count(report: &[u8], entry: u8) -> usize {
 }
 
 // A line for each block that is not kept.
-fn list<'a>(bytes: &'a [u8], report: &'a [u8]) {
+fn list<'a>(rt: &HostRuntime, bytes: &'a [u8], report: &'a [u8]) {
     let mut i: usize = 0;
     while i < report.len() {
-        list_block(bytes, i, report[i]);
+        list_block(rt, bytes, i, report[i]);
         i += 1;
     }
 }
 
 // A lost block is as it was, so a look at it tells its fault.
-fn list_block(bytes: &[u8], place: usize, entry: u8) {
+fn list_block(rt: &HostRuntime, bytes: &[u8], place: usize, entry: u8) {
     if entry == REPLACED {
-        text::write(STDERR_FILENO, words::replaced(place));
+        let _ = text::write(&mut rt.stderr(), words::replaced(place));
     }
     if entry == LOST {
-        text::write(STDERR_FILENO, words::lost(place, spool::look(bytes, place)));
+        let _ = text::write(
+            &mut rt.stderr(),
+            words::lost(place, spool::look(bytes, place)),
+        );
     }
 }
 
 // The spool reads now: its line.
-fn tell_digest(bytes: &[u8]) {
+fn tell_digest(rt: &HostRuntime, bytes: &[u8]) {
     let mut room = input::program_room();
     let done = spool::read(bytes, &mut room);
     let line = super::line(bytes.len(), endian::first(&room, done.len));
-    text::write(STDERR_FILENO, line);
-    text::write(STDERR_FILENO, words::compare());
+    let _ = text::write(&mut rt.stderr(), line);
+    let _ = text::write(&mut rt.stderr(), words::compare());
 }
