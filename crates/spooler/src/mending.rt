@@ -119,20 +119,18 @@ fn tell<'a>(rt: &HostRuntime, bytes: &'a [u8], report: &'a [u8]) -> u32 {
 // How many blocks have this entry.
 fn count(report: &[u8], entry: u8) -> usize {
     let mut n: usize = 0;
-    let mut i: usize = 0;
-    while i < report.len() {
-        n = if report[i] == entry { n + 1 } else { n };
-        i += 1;
+    for found in report {
+        if *found == entry {
+            n += 1;
+        }
     }
     n
 }
 
 // A line for each block that is not kept.
 fn list<'a>(rt: &HostRuntime, bytes: &'a [u8], report: &'a [u8]) {
-    let mut i: usize = 0;
-    while i < report.len() {
+    for i in 0..report.len() {
         list_block(rt, bytes, i, report[i]);
-        i += 1;
     }
 }
 
