@@ -5,6 +5,7 @@ import fcntl
 import hashlib
 import os
 import re
+import select
 import signal
 import subprocess
 import sys
@@ -120,11 +121,29 @@ def named_otherwise(words):
                 yield place, os.open(word, os.O_PATH)
 
 
-def run(name, program, words, places):
+def heard(out, frames, line):
+    """What comes on out, to its end. What comes on frames meanwhile goes to the line, of which a write never waits: what it does not take at
+    once is lost."""
+    said, left = b"", [out] if line is None else [out, frames]
+    while left:
+        for fd in select.select(left, [], [])[0]:
+            part = os.read(fd, 1 << 16)
+            if not part:
+                left.remove(fd)
+            elif fd == out:
+                said += part
+            else:
+                with contextlib.suppress(OSError):
+                    os.write(line, part)
+    return said
+
+
+def run(name, program, words, places, line=None):
     """Runs the program of a command with these words, and with the descriptor places[n] as its descriptor n: the number that it writes to
-    descriptor 3. It ends with the command."""
+    descriptor 3. It ends with the command. With a line, what it writes to descriptor 5 goes there."""
     out, number = os.pipe()
-    places = {**places, **dict(named_otherwise(words)), 3: number}
+    frames, place = (None, None) if line is None else os.pipe()
+    places = {**places, **dict(named_otherwise(words)), 3: number, **({} if line is None else {5: place})}
     high = {place: fcntl.fcntl(fd, fcntl.F_DUPFD_CLOEXEC, max(places) + 1) for place, fd in places.items()}
     actions = [(os.POSIX_SPAWN_DUP2, fd, place) for place, fd in high.items()]
     # A signal between the start and the try would leave the program behind.
@@ -133,10 +152,9 @@ def run(name, program, words, places):
     child = os.posix_spawn(program, [program, *words], os.environ, file_actions=actions, setsigmask=[])
     try:
         signal.pthread_sigmask(signal.SIG_UNBLOCK, ending)
-        for fd in [number, *high.values()]:
+        for fd in [number, *high.values(), *([] if line is None else [place])]:
             os.close(fd)
-        with os.fdopen(out) as file:
-            digits = file.read()
+        digits = heard(out, frames, line)
     finally:
         os.kill(child, signal.SIGKILL)
         os.waitpid(child, 0)

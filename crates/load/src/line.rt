@@ -3,8 +3,6 @@ use client::Secret;
 use std::fs::{File, OpenOptions};
 use std::io;
 use std::io::{IsTerminal, Read, Write};
-use std::os::fd::OwnedFd;
-use std::os::unix::net::UnixStream;
 use std::time::{SystemTime, UNIX_EPOCH};
 use upload::{Event, Job, Next, Turn};
 
@@ -26,13 +24,9 @@ pub fn open(rt: &HostRuntime) -> Option<Line> {
     }
 }
 
-// A write never waits. std sets that mode of sockets alone; one that is made of a copy of the descriptor sets it of what is open there, and
-// is closed again.
+// What is written here ./load hands to the line, which takes at once what it can: a write never waits.
 fn open_output(rt: &HostRuntime) -> io::Result<File> {
-    let output = OpenOptions::new().write(true).open(rt, "/proc/self/fd/5")?;
-    let copy = UnixStream::from(OwnedFd::from(output.try_clone()?));
-    copy.set_nonblocking(true)?;
-    Ok(output)
+    OpenOptions::new().write(true).open(rt, "/proc/self/fd/5")
 }
 
 // Sends frames and reads replies until the load is over.
