@@ -5,7 +5,7 @@ import fcntl
 import hashlib
 import os
 import re
-import select
+import selectors
 import signal
 import subprocess
 import sys
@@ -123,18 +123,22 @@ def named_otherwise(words):
 
 def heard(out, frames, line):
     """What comes on out, to its end. What comes on frames meanwhile goes to the line, of which a write never waits: what it does not take at
-    once is lost."""
-    said, left = b"", [out] if line is None else [out, frames]
-    while left:
-        for fd in select.select(left, [], [])[0]:
-            part = os.read(fd, 1 << 16)
-            if not part:
-                left.remove(fd)
-            elif fd == out:
-                said += part
-            else:
-                with contextlib.suppress(OSError):
-                    os.write(line, part)
+    once is lost. Closes both."""
+    said = b""
+    with selectors.DefaultSelector() as left:
+        for fd in [out] if line is None else [out, frames]:
+            left.register(fd, selectors.EVENT_READ)
+        while left.get_map():
+            for key, _ in left.select():
+                part = os.read(key.fd, 1 << 16)
+                if not part:
+                    left.unregister(key.fd)
+                    os.close(key.fd)
+                elif key.fd == out:
+                    said += part
+                else:
+                    with contextlib.suppress(OSError):
+                        os.write(line, part)
     return said
 
 
