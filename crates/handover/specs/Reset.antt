@@ -1,20 +1,25 @@
 -- The reset call: change request 7 and source document 002, RESET. A running program asks for the next start, and the record of that start is
 -- written by the table of fields that begin reads (`record`, specs/Record.antt).
-use Rattle.std.specs.Prelude.{ℕ, Bool, not, cond, ◌&&◌, eqb, ltb, length, take, drop}
+use Rattle.std.specs.Prelude.{ℕ, Bool, not, cond, ◌&&◌, eqb, ltb, length, take, drop, Result, Ok, Err}
 use mathlib.Core.List.{List, [], ◌∷◌, ◌++◌, foldl}
 use Rattle.rfc7693.specs.Rfc7693.{blake2s}
 use Rattle.endian.specs.Endian.{first_bytes}
 use Rattle.endian.specs.Lists.{zeros}
 use Rattle.record.specs.Record.{Field, type_field, mask_field, first_digest_field, measured_id_field, second_digest_field, data_field, reset_seed, has_second}
-use Rattle.handover.specs.declared.Answer.{Answer}
-use Rattle.handover.specs.declared.Answer.TheVariants.{Accepted, NextType, RecordLength, InputLength}
+use Rattle.handover.specs.declared.Next.{Next as Asked}
+use Rattle.handover.specs.declared.Refusal.{Refusal}
+use Rattle.handover.specs.declared.Refusal.TheVariants.{NextType, RecordLength, InputLength}
 
--- the number of each answer
-abbrev pub number_of : Answer → ℕ
-number_of Accepted = 0
-number_of NextType = 44
-number_of RecordLength = 45
-number_of InputLength = 46
+-- the number of each refusal
+abbrev pub refusal_number : Refusal → ℕ
+refusal_number NextType = 44
+refusal_number RecordLength = 45
+refusal_number InputLength = 46
+
+-- the number of each answer: 0 where the reset is accepted
+abbrev pub number_of : Result (Unit {0}) Refusal → ℕ
+number_of (Ok done) = 0
+number_of (Err why) = refusal_number why
 
 -- what the program asks for: type and mask, which have 32 bits, the two digests, of 32 bytes each, and data for the next program (source document
 -- 002: next_app_data)
@@ -28,6 +33,10 @@ pub record Next : Type 0 where
 
 abbrev pub next_of : ℕ → ℕ → List ℕ → List ℕ → List ℕ → Next
 next_of type mask first second next_data = record { type = type; mask = mask; first = first; second = second; next_data = next_data }
+
+-- what the code is asked for
+abbrev pub asked_in : Asked → Next
+asked_in x = next_of x.next_type x.mask x.first x.second x.next_data.now
 
 -- the hash of the CDI, then the seed (source document 002: measured_id_seed)
 abbrev pub mixed : List ℕ → List ℕ → List ℕ

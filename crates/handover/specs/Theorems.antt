@@ -1,12 +1,12 @@
 -- What is proved about a reset besides its promise: when it answers which number, what an accepted one leaves in each field of the record, and what
 -- begin reads there. The proof is `handovers` in proofs/Proved.antt.
-use Rattle.std.specs.Prelude.{ℕ, ◌+◌, ◌^◌, ◌<◌, ◌≤◌, ◌≡◌, ◌↔◌, true, cond, List, [], ◌∷◌, ◌++◌, length}
+use Rattle.std.specs.Prelude.{ℕ, ◌+◌, ◌^◌, ◌<◌, ◌≤◌, ◌≡◌, ◌↔◌, true, cond, List, [], ◌∷◌, ◌++◌, length, Result}
 use Rattle.std.proofs.Math.Option.{some}
 use Rattle.rfc7693.specs.Rfc7693.{blake2s}
 use Rattle.endian.specs.Lists.{each, zeros}
 use Rattle.record.specs.Record.{type_field, mask_field, first_digest_field, measured_id_field, second_digest_field, data_field, field_of, number_in, Contents, reset_seed, has_second, record_at}
 use Rattle.handover.specs.Reset.{number_of, Next, next_of, HandedOver, handed_over, resetting}
-use Rattle.handover.specs.declared.Answer.{Answer}
+use Rattle.handover.specs.declared.Refusal.{Refusal}
 
 -- that the mask has 32 bits, and each digest 32 bytes, is their type in the code
 pub record Typed (x : Next) : Type 0 where
@@ -89,7 +89,7 @@ pub record Examples : Type 0 where
 
 pub record Handovers : Type 0 where
   -- the number settles the answer
-  pub answers : (x y : Answer) → number_of x ≡ number_of y → x ≡ y
+  pub answers : (x y : Result (Unit {0}) Refusal) → number_of x ≡ number_of y → x ≡ y
   -- each number exactly when it is the lowest that applies
   pub settles : (cdi seed : List ℕ) (x : Next) (rec : List ℕ) → Settles cdi seed x rec
   -- an accepted reset: measured_id is the hash of CDI, then seed, exactly where mask bit 0 is set

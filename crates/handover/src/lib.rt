@@ -3,15 +3,13 @@
 // Change request 7 and source document 002, RESET, in the terms of specs/Reset.antt.
 #![tactic(auto)]
 
-ghost use Rattle.std.specs.Prelude.{◌≡◌, cond, ◌+◌, ◌≤◌, length};
-ghost use Rattle.endian.specs.Lists.{zeros};
-ghost use Rattle.record.specs.Record.{second_digest_field, data_field, has_second};
-ghost use Rattle.handover.specs.Reset.{number_of, next_of, mixed, measured_id_for, word_bytes, put, written_record, inputs_fit, handed_over, resetting};
+ghost use Rattle.std.specs.Prelude.{◌≡◌, ◌+◌, ◌≤◌, length};
+ghost use Rattle.record.specs.Record.{data_field, reset_seed, has_second};
+ghost use Rattle.handover.specs.Reset.{refusal_number, number_of, asked_in, mixed, measured_id_for, word_bytes, put, written_record, inputs_fit, handed_over, resetting};
 
-// What a reset answers: it was accepted, or the reason why it was refused and changed nothing.
-#[derive(Clone, Copy)]
-pub enum Answer {
-    Accepted,
+// Why a reset is refused; it then changes nothing.
+#[derive(Clone, Copy, Debug, PartialEq, Eq)]
+pub enum Refusal {
     // The next type is over 5.
     NextType,
     // The record has not 256 bytes.
@@ -20,22 +18,57 @@ pub enum Answer {
     InputLength,
 }
 
-// Where the data begins: behind the second digest, if there is one.
-fn data_from(mask: u32) -> usize
-    ensures { result ≡ (data_field (has_second mask)).from }
-{
-    if mask / 2 % 2 == 1 {
-        return 104;
+impl From<Refusal> for u32 {
+    ghost from_gives = { λ why n. n ≡ refusal_number why };
+
+    fn from(why: Refusal) -> u32 {
+        match why {
+            Refusal::NextType => 44,
+            Refusal::RecordLength => 45,
+            Refusal::InputLength => 46,
+        }
     }
-    72
 }
 
-// Whether CDI, seed and data have the lengths that they must have.
-fn inputs_fit(mask: u32, cdi: usize, seed: usize, next_data: usize) -> bool
-    ensures { result ≡ inputs_fit mask cdi seed next_data }
-{
-    let size = 256 - data_from(mask);
-    (cdi == 32) & ((seed == 32) & (next_data == size))
+// What the program asks for.
+#[derive(Clone, Copy)]
+pub struct Next<'a> {
+    pub next_type: u32,
+    pub mask: u32,
+    // The allowed digests; the second is not written where mask bit 1 is clear.
+    pub first: [u8; 32],
+    pub second: [u8; 32],
+    pub next_data: &'a [u8],
+}
+
+impl Next<'_> {
+    // Mask bit 0: measured_id is made of CDI and seed.
+    fn reset_seed(&self) -> bool
+        ensures { result ≡ reset_seed self.now.mask }
+    {
+        self.mask % 2 == 1
+    }
+
+    // Mask bit 1: there is a second digest.
+    fn has_second(&self) -> bool
+        ensures { result ≡ has_second self.now.mask }
+    {
+        self.mask / 2 % 2 == 1
+    }
+
+    // Where the data begins: behind the second digest, if there is one.
+    fn data_from(&self) -> usize
+        ensures { result ≡ (data_field (has_second self.now.mask)).from }
+    {
+        if self.has_second() { 104 } else { 72 }
+    }
+
+    // Whether CDI, seed and data have the lengths that they must have.
+    fn inputs_fit(&self, cdi: &[u8], seed: &[u8]) -> bool
+        ensures { result ≡ inputs_fit self.now.mask (length cdi.now) (length seed.now) (length self.now.next_data.now) }
+    {
+        cdi.len() == 32 && seed.len() == 32 && self.next_data.len() == 256 - self.data_from()
+    }
 }
 
 // Writes bytes from a place on.
@@ -71,92 +104,47 @@ fn mix(cdi: &[u8], seed: &[u8]) -> [u8; 32]
 }
 
 // measured_id of the next record.
-fn measured_id(mask: u32, cdi: &[u8], seed: &[u8]) -> [u8; 32]
+fn measured_id(next: Next<'_>, cdi: &[u8], seed: &[u8]) -> [u8; 32]
     requires { (length cdi.now ≡ 32) × (length seed.now ≡ 32) }
-    ensures { result ≡ measured_id_for mask cdi.now seed.now }
+    ensures { result ≡ measured_id_for next.entry.mask cdi.now seed.now }
 {
-    if mask % 2 == 1 {
-        return mix(cdi, seed);
-    }
-    [0; 32]
-}
-
-// Writes the second digest, if there is one.
-fn put_second(out: &mut [u8], mask: u32, second: [u8; 32])
-    requires { length out.old ≡ 256 }
-    ensures { out.new ≡ cond (has_second mask) (put second_digest_field second out.old) out.old }
-{
-    if mask / 2 % 2 == 1 {
-        put(out, 72, &second);
+    if next.reset_seed() {
+        mix(cdi, seed)
+    } else {
+        [0; 32]
     }
 }
 
 // Writes a whole record.
-fn write(
-    out: &mut [u8],
-    next_type: u32,
-    mask: u32,
-    first: [u8; 32],
-    measured_id: [u8; 32],
-    second: [u8; 32],
-    next_data: &[u8],
-)
-    requires { (length out.old ≡ 256) × (length next_data.now ≡ (data_field (has_second mask)).size) }
-    ensures { out.new ≡ written_record (next_of next_type mask first second next_data.now) measured_id }
+fn write(out: &mut [u8], next: Next<'_>, measured_id: [u8; 32])
+    requires { (length out.old ≡ 256) × (length next.next_data.now ≡ (data_field (has_second next.mask)).size) }
+    ensures { out.new ≡ written_record (asked_in next.entry) measured_id }
 {
-    put_number(out, 0, next_type);
-    put_number(out, 4, mask);
-    put(out, 8, &first);
+    put_number(out, 0, next.next_type);
+    put_number(out, 4, next.mask);
+    put(out, 8, &next.first);
     put(out, 40, &measured_id);
-    put_second(out, mask, second);
-    put(out, data_from(mask), next_data);
-}
-
-// Zeroes a CDI.
-fn clear(bytes: &mut [u8])
-    requires { length bytes.old ≡ 32 }
-    ensures { bytes.new ≡ zeros 32 }
-{
-    let none = [0u8; 32];
-    bytes.copy_from_slice(&none);
+    if next.has_second() {
+        put(out, 72, &next.second);
+    }
+    put(out, next.data_from(), next.next_data);
 }
 
 // Hands over to the next program: writes the record of its start, and zeroes the CDI.
-pub fn reset(
-    cdi: &mut [u8],
-    seed: &[u8],
-    next_type: u32,
-    mask: u32,
-    first: [u8; 32],
-    second: [u8; 32],
-    next_data: &[u8],
-    record: &mut [u8],
-) -> Answer
-    ensures { handed_over (number_of result) cdi.new «record».new ≡ resetting cdi.old seed.now (next_of next_type mask first second next_data.now) «record».old }
+pub fn reset(cdi: &mut [u8], seed: &[u8], next: Next<'_>, record: &mut [u8]) -> Result<(), Refusal>
+    ensures { handed_over (number_of result) cdi.new «record».new ≡ resetting cdi.old seed.now (asked_in next.entry) «record».old }
 {
-    if 5 < next_type {
-        return Answer::NextType;
+    if 5 < next.next_type {
+        return Err(Refusal::NextType);
     }
     if record.len() != 256 {
-        return Answer::RecordLength;
+        return Err(Refusal::RecordLength);
     }
-    if !inputs_fit(mask, cdi.len(), seed.len(), next_data.len()) {
-        return Answer::InputLength;
+    if !next.inputs_fit(cdi, seed) {
+        return Err(Refusal::InputLength);
     }
-    let id = measured_id(mask, cdi, seed);
-    write(record, next_type, mask, first, id, second, next_data);
-    clear(cdi);
-    Answer::Accepted
-}
-
-// The number that change request 7 gives an answer; 0 where the reset is accepted.
-pub fn answer_number(a: Answer) -> u32
-    ensures { result ≡ number_of a }
-{
-    match a {
-        Answer::Accepted => 0,
-        Answer::NextType => 44,
-        Answer::RecordLength => 45,
-        Answer::InputLength => 46,
-    }
+    let id = measured_id(next, cdi, seed);
+    write(record, next, id);
+    cdi.fill(0);
+    Ok(())
 }
