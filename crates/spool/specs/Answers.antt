@@ -1,19 +1,28 @@
 -- The numbers of change request 10, and what reading and writing settle.
-use Rattle.std.specs.Prelude.{ℕ, cond, List, eqb, length}
+use Rattle.std.specs.Prelude.{ℕ, cond, List, eqb, length, Result, Ok, Err}
 use Rattle.protocol.specs.Replies.{put_in}
-use Rattle.spool.specs.declared.Answer.{Answer}
-use Rattle.spool.specs.declared.Answer.TheVariants.{Accepted, ProgramLength, SpoolLength, BlockCheck, BlockNumber, BlockCount, RoomLength}
-use Rattle.spool.specs.declared.Done.{Done}
+use Rattle.spool_block.specs.Block.{fault_number}
+use Rattle.spool.specs.declared.Refusal.{Refusal}
+use Rattle.spool.specs.declared.Refusal.TheVariants.{ProgramLength, SpoolLength, Block, RoomLength}
+use Rattle.spool.specs.declared.Fate.{Fate}
+use Rattle.spool.specs.declared.Fate.TheVariants.{Kept, Replaced, Lost}
+
+abbrev pub refusal_number : Refusal → ℕ
+refusal_number ProgramLength = 40
+refusal_number SpoolLength = 50
+refusal_number (Block fault) = fault_number fault
+refusal_number RoomLength = 54
 
 -- 0 for a call that is accepted
-abbrev pub number_of : Answer → ℕ
-number_of Accepted = 0
-number_of ProgramLength = 40
-number_of SpoolLength = 50
-number_of BlockCheck = 51
-number_of BlockNumber = 52
-number_of BlockCount = 53
-number_of RoomLength = 54
+abbrev pub number_of : Result Unit Refusal → ℕ
+number_of (Ok _) = 0
+number_of (Err refusal) = refusal_number refusal
+
+-- what salvage reports of a block
+abbrev pub fate_number : Fate → ℕ
+fate_number Kept = 0
+fate_number Replaced = 1
+fate_number Lost = 2
 
 -- all that reading or writing settles: the number of the refusal, 0 for none, how many bytes were put in the room, and what it then holds
 pub record Outcome : Type 0 where
@@ -24,8 +33,9 @@ pub record Outcome : Type 0 where
 abbrev pub outcome : ℕ → ℕ → List ℕ → Outcome
 outcome number len room = record { number = number; len = len; room = room }
 
-abbrev pub outcome_of : Done → List ℕ → Outcome
-outcome_of d room = outcome (number_of d.answer) d.len room
+abbrev pub outcome_of : Result ℕ Refusal → List ℕ → Outcome
+outcome_of (Ok len) room = outcome 0 len room
+outcome_of (Err refusal) room = outcome (refusal_number refusal) 0 room
 
 -- bytes are put at the front of the room, and the rest of it stays; a refused call puts none
 unfoldable pub given : ℕ → List ℕ → List ℕ → Outcome

@@ -1,9 +1,7 @@
 -- What only the promises of private functions cite. No public promise and no theorem rests on it.
 use Rattle.std.specs.Prelude.{ℕ, ◌+◌, ◌<◌, ◌≤◌, ◌≡◌, true, false, cond, List, eqb, ltb}
 use Rattle.spool_block.specs.Block.{is_good}
-use Rattle.spool.specs.Answers.{number_of}
 use Rattle.spool.specs.Reading.{blocks_in, block_at}
-use Rattle.spool.specs.declared.Done.{Done}
 
 -- the place behind place i; behind the last block there is none
 unfoldable pub place_after : List ℕ → ℕ → ℕ
@@ -14,7 +12,3 @@ pub record FirstGood (n i : ℕ) (spares : List ℕ) (k : ℕ) : Type 0 where
   pub within : k ≤ blocks_in spares
   pub good : k < blocks_in spares → is_good n i (block_at spares k) ≡ true
   pub before : (j : ℕ) → j < k → is_good n i (block_at spares j) ≡ false
-
--- a lent count after a call
-abbrev pub count_after : Done → ℕ → ℕ
-count_after d len = cond (eqb (number_of d.answer) 0) d.len len

@@ -1,5 +1,5 @@
 -- What is proved about spools besides the promises. The proof is `spools` in proofs/Proved.antt.
-use Rattle.std.specs.Prelude.{ℕ, ◌*◌, ◌%◌, ◌<◌, ◌≤◌, ◌≡◌, ◌↔◌, List, [], ◌∷◌, length, take, drop, get_or}
+use Rattle.std.specs.Prelude.{ℕ, ◌*◌, ◌%◌, ◌<◌, ◌≤◌, ◌≡◌, ◌↔◌, List, [], ◌∷◌, length, take, drop, get_or, Result}
 use Rattle.endian.specs.Lists.{zeros, Bytes}
 use Rattle.protocol.specs.Replies.{put_in}
 use Rattle.spool_block.specs.Block.{block_refusal}
@@ -7,7 +7,7 @@ use Rattle.spool.specs.Answers.{number_of, outcome}
 use Rattle.spool.specs.Reading.{blocks_in, block_at, refusal_at, reading, look_refusal}
 use Rattle.spool.specs.Writing.{spool_blocks, spool_of, writing}
 use Rattle.spool.specs.Salvage.{salvaging_as, salvaging}
-use Rattle.spool.specs.declared.Answer.{Answer}
+use Rattle.spool.specs.declared.Refusal.{Refusal}
 
 -- a program, and a spool's length, that are not refused
 pub record IsProgram (p : List ℕ) : Type 0 where
@@ -72,7 +72,7 @@ pub record Salvaged (s spares old t r : List ℕ) : Type 0 where
 
 pub record Spools : Type 0 where
   -- the number settles the answer
-  pub answers : (x y : Answer) → number_of x ≡ number_of y → x ≡ y
+  pub answers : (x y : Result Unit Refusal) → number_of x ≡ number_of y → x ≡ y
   pub reads : (s room : List ℕ) → ReadSettles s room
   pub writes : (p room : List ℕ) → WriteSettles p room
   pub salvages : (s spares report : List ℕ) → SalvageSettles s spares report

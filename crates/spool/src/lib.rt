@@ -6,173 +6,134 @@ mod reading;
 mod salvaging;
 mod writing;
 
-ghost use Rattle.std.specs.Prelude.{◌≡◌, ◌≤◌};
-ghost use Rattle.spool.specs.Answers.{number_of, outcome_of, outcome, with_count};
+ghost use Rattle.std.specs.Prelude.{◌≡◌, ◌<◌, MatchResult};
+ghost use Rattle.spool.specs.Answers.{refusal_number, number_of, outcome_of, fate_number};
 ghost use Rattle.spool.specs.Reading.{reading, look_refusal};
 ghost use Rattle.spool.specs.Writing.{writing};
 ghost use Rattle.spool.specs.Salvage.{salvaging_as, salvaging};
-ghost use Rattle.spool.specs.Steps.{count_after};
+ghost use Rattle.spool.specs.declared.Refusal.TheVariants.{Block};
 
-// What a call answers. A refused call changes nothing.
-#[derive(Clone, Copy)]
-pub enum Answer {
-    Accepted,
+use spool_block::Fault;
+
+// Why a call is refused. It changes nothing then.
+#[derive(Clone, Copy, Debug, PartialEq, Eq)]
+pub enum Refusal {
     // The program has no byte, or over 131,072.
     ProgramLength,
     // The spool's length is zero, over 142,336 or not a multiple of 512, or the spares' is not.
     SpoolLength,
-    // A block's check is not the hash of its bytes 0 to 479.
-    BlockCheck,
-    // A block has another number than its place.
-    BlockNumber,
-    // A block uses too many or too few bytes, or one that it does not use is not zero.
-    BlockCount,
+    // What is wrong with the earliest block that is not good.
+    Block(Fault),
     // The room for program, spool or report is too small.
     RoomLength,
 }
 
-// What reading and writing answer, and how many bytes they put at the front of the room; none where they are refused.
-#[derive(Clone, Copy)]
-pub struct Done {
-    pub answer: Answer,
-    pub len: usize,
-}
+// The numbers of change request 10.
+impl From<Refusal> for u32 {
+    ghost from_gives = { λ r n. n ≡ refusal_number r };
 
-// The number that change request 10 gives an answer; 0 where the call is accepted.
-pub fn answer_number(a: Answer) -> u32
-    ensures { result ≡ number_of a }
-{
-    match a {
-        Answer::Accepted => 0,
-        Answer::ProgramLength => 40,
-        Answer::SpoolLength => 50,
-        Answer::BlockCheck => 51,
-        Answer::BlockNumber => 52,
-        Answer::BlockCount => 53,
-        Answer::RoomLength => 54,
+    fn from(refusal: Refusal) -> u32 {
+        match refusal {
+            Refusal::ProgramLength => 40,
+            Refusal::SpoolLength => 50,
+            Refusal::Block(fault) => u32::from(fault),
+            Refusal::RoomLength => 54,
+        }
     }
 }
 
-// The answer with a number that a look at a place gives.
-fn answer_of(refusal: u32) -> Answer
-    requires { (refusal ≡ 0 → ⊥) → (50 ≤ refusal) × (refusal ≤ 53) }
-    ensures { number_of result ≡ refusal }
-{
-    match refusal {
-        0 => Answer::Accepted,
-        50 => Answer::SpoolLength,
-        51 => Answer::BlockCheck,
-        52 => Answer::BlockNumber,
-        _ => Answer::BlockCount,
+impl From<Fault> for Refusal {
+    ghost from_gives = { λ f r. r ≡ Block f };
+
+    fn from(fault: Fault) -> Refusal {
+        Refusal::Block(fault)
     }
 }
 
-fn refused(answer: Answer) -> Done
-    ensures { (result.answer ≡ answer) × (result.len ≡ 0) }
-{
-    Done { answer, len: 0 }
+// What salvage reports of a block.
+#[derive(Clone, Copy, Debug, PartialEq, Eq)]
+pub enum Fate {
+    Kept,
+    Replaced,
+    Lost,
 }
 
-// Puts the program in a spool at the front of the room.
-pub fn read(spool: &[u8], room: &mut [u8]) -> Done
+impl From<Fate> for u8 {
+    ghost from_gives = { λ f n. n ≡ fate_number f };
+
+    fn from(fate: Fate) -> u8 {
+        match fate {
+            Fate::Kept => 0,
+            Fate::Replaced => 1,
+            Fate::Lost => 2,
+        }
+    }
+}
+
+// No block has this fate.
+#[derive(Clone, Copy, Debug, PartialEq, Eq)]
+pub struct UnknownFate;
+
+impl TryFrom<u8> for Fate {
+    type Error = UnknownFate;
+
+    ghost try_from_gives = { λ n r. MatchResult r (λ f. fate_number f ≡ n) (λ _. 2 < n) };
+
+    fn try_from(entry: u8) -> Result<Fate, UnknownFate> {
+        match entry {
+            0 => Ok(Fate::Kept),
+            1 => Ok(Fate::Replaced),
+            2 => Ok(Fate::Lost),
+            _ => Err(UnknownFate),
+        }
+    }
+}
+
+// Puts the program in a spool at the front of the room, and says how long it is.
+pub fn read(spool: &[u8], room: &mut [u8]) -> Result<usize, Refusal>
     ensures { outcome_of result room.new ≡ reading spool.now room.old }
 {
     if reading::length_is_bad(spool.len()) {
-        return refused(Answer::SpoolLength);
+        return Err(Refusal::SpoolLength);
     }
     if room.len() < 472 * (spool.len() / 512) {
-        return refused(Answer::RoomLength);
+        return Err(Refusal::RoomLength);
     }
-    let refusal = reading::first_refusal(spool);
-    if refusal != 0 {
-        return refused(answer_of(refusal));
-    }
-    Done {
-        answer: Answer::Accepted,
-        len: reading::gather(spool, room),
-    }
+    reading::check_all(spool)?;
+    Ok(reading::gather(spool, room))
 }
 
-// What a reader finds at a place of a spool: the block there is good, or its first fault; there is none there, or the spool has a bad length.
-pub fn look(spool: &[u8], place: usize) -> Answer
+// Whether the block at a place is good there, and otherwise its first fault; the spool's length is refused where it has no such block, too.
+pub fn look(spool: &[u8], place: usize) -> Result<(), Refusal>
     ensures { number_of result ≡ look_refusal spool.now place }
 {
-    let seen = reading::look_at(spool, place);
-    answer_of(seen.refusal)
+    reading::look(spool, place)
 }
 
-// Puts the spool of a program at the front of the room.
-pub fn write(program: &[u8], room: &mut [u8]) -> Done
+// Puts the spool of a program at the front of the room, and says how long it is.
+pub fn write(program: &[u8], room: &mut [u8]) -> Result<usize, Refusal>
     ensures { outcome_of result room.new ≡ writing program.now room.old }
 {
     if !protocol::length_ok(program.len()) {
-        return refused(Answer::ProgramLength);
+        return Err(Refusal::ProgramLength);
     }
     if room.len() < 512 * writing::spool_blocks(program.len()) {
-        return refused(Answer::RoomLength);
+        return Err(Refusal::RoomLength);
     }
-    Done {
-        answer: Answer::Accepted,
-        len: writing::spread(program, room),
-    }
+    Ok(writing::spread(program, room))
 }
 
-// Fills each bad place of a spool with the first spare block that is good there, if one is, and reports of every block at the front of the
-// report: kept (0), replaced (1) or lost (2).
-pub fn salvage(spool: &mut [u8], spares: &[u8], report: &mut [u8]) -> Answer
+// Fills each bad place of a spool with the first spare block that is good there, if one is, and reports the fate of every block at the front
+// of the report.
+pub fn salvage(spool: &mut [u8], spares: &[u8], report: &mut [u8]) -> Result<(), Refusal>
     ensures { salvaging_as (number_of result) spool.new report.new ≡ salvaging spool.old spares.now report.old }
 {
-    if reading::length_is_bad(spool.len()) {
-        return Answer::SpoolLength;
-    }
-    if spares.len() % 512 != 0 {
-        return Answer::SpoolLength;
+    if reading::length_is_bad(spool.len()) || spares.len() % 512 != 0 {
+        return Err(Refusal::SpoolLength);
     }
     if report.len() < spool.len() / 512 {
-        return Answer::RoomLength;
+        return Err(Refusal::RoomLength);
     }
     salvaging::mend_all(spool, spares, report);
-    Answer::Accepted
-}
-
-// ---- for C: include/mastfrap.h
-
-// The number of an answer; the count is written where the call was accepted.
-fn tell(d: Done, len: &mut usize) -> u32
-    ensures { (result ≡ number_of d.answer) × (len.new ≡ count_after d len.old) }
-{
-    let answer = d.answer;
-    let n = answer_number(answer);
-    if n == 0 {
-        *len = d.len;
-    }
-    n
-}
-
-pub fn mastfrap_spool_read(spool: &[u8], room: &mut [u8], len: &mut usize) -> u32
-    ensures { outcome result len.new room.new ≡ with_count (reading spool.now room.old) len.old }
-{
-    let d = read(spool, room);
-    tell(d, len)
-}
-
-pub fn mastfrap_spool_look(spool: &[u8], place: usize) -> u32
-    ensures { result ≡ look_refusal spool.now place }
-{
-    let a = look(spool, place);
-    answer_number(a)
-}
-
-pub fn mastfrap_spool_write(program: &[u8], room: &mut [u8], len: &mut usize) -> u32
-    ensures { outcome result len.new room.new ≡ with_count (writing program.now room.old) len.old }
-{
-    let d = write(program, room);
-    tell(d, len)
-}
-
-pub fn mastfrap_spool_salvage(spool: &mut [u8], spares: &[u8], report: &mut [u8]) -> u32
-    ensures { salvaging_as result spool.new report.new ≡ salvaging spool.old spares.now report.old }
-{
-    let a = salvage(spool, spares, report);
-    answer_number(a)
+    Ok(())
 }

@@ -31,8 +31,7 @@ fn mend(spool: &mut [u8], spares: &[u8], place: usize) -> u8
     requires { (bad_length (length spool.old) ≡ false) × (place < blocks_in spool.old) }
     ensures { (result ≡ (mended_at spool.old spares.now place).entry) × (spool.new ≡ put_at (512 * place) (mended_at spool.old spares.now place).block spool.old) }
 {
-    let seen = reading::look_at(spool, place);
-    if seen.refusal == 0 {
+    if reading::look(spool, place).is_ok() {
         return 0;
     }
     let k = find_spare(spares, place, spool.len() / 512);

@@ -1,8 +1,10 @@
 -- A block of a design spool: change request 10. What its bytes say, and when it is good at a place of a spool.
-use Rattle.std.specs.Prelude.{ℕ, ◌+◌, ◌-◌, Bool, cond, not, ◌&&◌, List, [], eqb, leb, take, drop}
+use Rattle.std.specs.Prelude.{ℕ, ◌+◌, ◌-◌, Bool, cond, not, ◌&&◌, List, [], eqb, leb, take, drop, Result, Ok, Err}
 use Rattle.rfc7693.specs.Rfc7693.{blake2s}
 use Rattle.endian.specs.Lists.{zeros, same}
 use Rattle.endian.specs.Fields.{Field, field_of, number_in}
+use Rattle.spool_block.specs.declared.Fault.{Fault}
+use Rattle.spool_block.specs.declared.Fault.TheVariants.{Check, Number, Count}
 
 -- a block has 512 bytes: its number, from 0, how many program bytes it uses, program bytes, and the check
 abbrev pub block_size : ℕ
@@ -58,3 +60,13 @@ block_refusal n i b =
 
 abbrev pub is_good : ℕ → ℕ → List ℕ → Bool
 is_good n i b = eqb (block_refusal n i b) 0
+
+abbrev pub fault_number : Fault → ℕ
+fault_number Check = 51
+fault_number Number = 52
+fault_number Count = 53
+
+-- 0 for a block that is good
+abbrev pub number_of : Result Unit Fault → ℕ
+number_of (Ok _) = 0
+number_of (Err fault) = fault_number fault

@@ -6,10 +6,34 @@ ghost use Rattle.std.specs.Prelude.{◌≡◌, [], ◌++◌, ◌+◌, ◌≤◌,
 ghost use Rattle.rfc7693.specs.Rfc7693.{blake2s};
 ghost use Rattle.endian.specs.Lists.{zeros};
 ghost use Rattle.endian.specs.Fields.{number_in, word_bytes};
-ghost use Rattle.spool_block.specs.Block.{count_in, used_in, good_check, good_count, good_filler, block_refusal, is_good};
+ghost use Rattle.spool_block.specs.Block.{count_in, used_in, good_check, good_count, good_filler, block_refusal, is_good, fault_number, number_of};
 ghost use Rattle.spool_block.specs.Making.{checked_part, block_of};
 
 // ---- a block tested
+
+// The first that is wrong with a block at a place.
+#[derive(Clone, Copy, Debug, PartialEq, Eq)]
+pub enum Fault {
+    // Its check is not the hash of its bytes 0 to 479.
+    Check,
+    // It has another number than its place.
+    Number,
+    // It uses too many or too few bytes, or one that it does not use is not zero.
+    Count,
+}
+
+// The numbers of change request 10.
+impl From<Fault> for u32 {
+    ghost from_gives = { λ f n. n ≡ fault_number f };
+
+    fn from(fault: Fault) -> u32 {
+        match fault {
+            Fault::Check => 51,
+            Fault::Number => 52,
+            Fault::Count => 53,
+        }
+    }
+}
 
 // BLAKE2s-256 of bytes 0 to 479.
 fn check_of(b: &[u8]) -> [u8; 32]
@@ -75,33 +99,29 @@ fn filler_is_good(b: &[u8], count: u32) -> bool
 }
 
 // The tests of 512 bytes, in the order of their numbers.
-fn first_fault(b: &[u8], place: usize, blocks: usize) -> u32
+fn first_fault(b: &[u8], place: usize, blocks: usize) -> Result<(), Fault>
     requires { 512 ≤ length b.now }
-    ensures { result ≡ block_refusal blocks place b.now }
+    ensures { number_of result ≡ block_refusal blocks place b.now }
 {
     if !check_is_good(b) {
-        return 51;
+        return Err(Fault::Check);
     }
     if number_at(b, 0) as usize != place {
-        return 52;
+        return Err(Fault::Number);
     }
     let count = number_at(b, 4);
-    if !count_is_good(place, blocks, count) {
-        return 53;
+    if !count_is_good(place, blocks, count) || !filler_is_good(b, count) {
+        return Err(Fault::Count);
     }
-    if !filler_is_good(b, count) {
-        return 53;
-    }
-    0
+    Ok(())
 }
 
-// The first refusal that a block gives at a place of a spool of so many blocks; 0 where it is good there. Fewer than 512 bytes have no whole
-// check.
-pub fn refusal(b: &[u8], place: usize, blocks: usize) -> u32
-    ensures { result ≡ block_refusal blocks place b.now }
+// Whether a block is good at a place of a spool of so many blocks, and otherwise its first fault. Fewer than 512 bytes have no whole check.
+pub fn check(b: &[u8], place: usize, blocks: usize) -> Result<(), Fault>
+    ensures { number_of result ≡ block_refusal blocks place b.now }
 {
     if b.len() < 512 {
-        return 51;
+        return Err(Fault::Check);
     }
     first_fault(b, place, blocks)
 }
@@ -116,7 +136,7 @@ pub fn is_good(b: &[u8], place: usize, blocks: usize) -> bool
     if number_at(b, 0) as usize != place {
         return false;
     }
-    first_fault(b, place, blocks) == 0
+    first_fault(b, place, blocks).is_ok()
 }
 
 // The program bytes that a block uses.
