@@ -103,7 +103,7 @@ fn read_word(b: &[u8], i: usize) -> u32
     requires { i + 4 ≤ length b.now }
     ensures { result ≡ word b.now i }
 {
-    endian::word(b[i], b[i + 1], b[i + 2], b[i + 3])
+    endian::word_at(b, i)
 }
 
 // Reads the message words of a block to m.

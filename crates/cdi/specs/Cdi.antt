@@ -1,5 +1,7 @@
 -- The Compound Device Identifier: document 01, "Commands and replies", which source document 002 decides.
-use Rattle.std.specs.Prelude.{ℕ, ◌+◌, Bool, cond, List, [], ◌∷◌, ◌++◌}
+use Rattle.std.specs.Prelude.{ℕ, ◌+◌, Bool, cond, List, [], ◌∷◌, ◌++◌, Option, is_some}
+use Rattle.std.specs.Option.{unwrap_or}
+use Rattle.endian.specs.Lists.{zeros}
 use Rattle.rfc7693.specs.Rfc7693.{blake2s}
 
 -- bit 0: a user secret (USS) is used; bit 1: the record's mask has RESET_SEED (document 01: chained)
@@ -18,3 +20,8 @@ cdi_string uds chained measured_id digest used uss =
 -- its BLAKE2s-256
 unfoldable pub cdi_of : List ℕ → Bool → List ℕ → List ℕ → Bool → List ℕ → List ℕ
 cdi_of uds chained measured_id digest used uss = blake2s [] (cdi_string uds chained measured_id digest used uss) 32
+
+-- the same of a measured_id and a user secret that may not be there
+abbrev pub cdi_from : List ℕ → Option (List ℕ) → List ℕ → Option (List ℕ) → List ℕ
+cdi_from uds measured_id digest uss =
+    cdi_of uds (is_some measured_id) (unwrap_or measured_id (zeros 32)) digest (is_some uss) (unwrap_or uss (zeros 32))

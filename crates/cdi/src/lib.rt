@@ -3,24 +3,20 @@
 // Document 01, "Commands and replies", in the terms of specs/Cdi.antt.
 #![tactic(auto)]
 
-ghost use Rattle.std.specs.Prelude.{◌≡◌, [], ◌++◌, ◌∷◌, cond, ◌≤◌, length};
+ghost use Rattle.std.specs.Prelude.{◌≡◌, ◌++◌, ◌∷◌, [], ◌≤◌, length};
 ghost use Rattle.rfc7693.specs.Rfc7693.{blake2s};
-ghost use Rattle.cdi.specs.Cdi.{domain_of, cdi_of};
+ghost use Rattle.cdi.specs.Cdi.{domain_of, cdi_from};
 
 // The domain byte.
 fn domain(uss_used: bool, chained: bool) -> u8
     ensures { result ≡ domain_of uss_used chained }
 {
-    if uss_used {
-        if chained {
-            return 3;
-        }
-        return 1;
+    match (uss_used, chained) {
+        (false, false) => 0,
+        (true, false) => 1,
+        (false, true) => 2,
+        (true, true) => 3,
     }
-    if chained {
-        return 2;
-    }
-    0
 }
 
 // The string with the user secret at its end, used or not.
@@ -31,7 +27,7 @@ fn string(uds: [u8; 32], domain: u8, measurement: [u8; 32], uss: [u8; 32]) -> [u
     b[..32].copy_from_slice(&uds);
     b[32] = domain;
     b[33..65].copy_from_slice(&measurement);
-    b[65..97].copy_from_slice(&uss);
+    b[65..].copy_from_slice(&uss);
     b
 }
 
@@ -46,31 +42,21 @@ fn digest(msg: &[u8]) -> [u8; 32]
     d
 }
 
-// The measurement: measured_id where the CDI is chained to it, and otherwise the program's digest.
-fn measurement(chained: bool, measured_id: [u8; 32], digest: [u8; 32]) -> [u8; 32]
-    ensures { result ≡ cond chained measured_id digest }
-{
-    if chained {
-        return measured_id;
-    }
-    digest
-}
-
-// Derives the CDI.
+// Derives the CDI: the measurement is measured_id where the CDI is chained to one, and otherwise the program's digest.
 pub fn derive(
     uds: [u8; 32],
-    chained: bool,
-    measured_id: [u8; 32],
+    measured_id: Option<[u8; 32]>,
     digest: [u8; 32],
-    uss_used: bool,
-    uss: [u8; 32],
+    uss: Option<[u8; 32]>,
 ) -> [u8; 32]
-    ensures { result ≡ cdi_of uds chained measured_id digest uss_used uss }
+    ensures { result ≡ cdi_from uds measured_id digest uss }
 {
-    let m = measurement(chained, measured_id, digest);
-    let b = string(uds, domain(uss_used, chained), m, uss);
-    if uss_used {
-        return self::digest(&b);
+    let domain = domain(uss.is_some(), measured_id.is_some());
+    let measurement = measured_id.unwrap_or(digest);
+    let b = string(uds, domain, measurement, uss.unwrap_or([0; 32]));
+    if uss.is_some() {
+        self::digest(&b)
+    } else {
+        self::digest(&b[..65])
     }
-    self::digest(&b[..65])
 }

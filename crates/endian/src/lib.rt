@@ -1,15 +1,34 @@
-// Words of 32 bits as four bytes, lowest byte first.
+// Words of 32 bits as four bytes, lowest byte first, and parts of what is lent.
 #![tactic(auto)]
 
-ghost use Rattle.std.specs.Prelude.{◌≡◌, [], ◌∷◌, ◌/◌, ◌%◌, get_or, length, take};
+ghost use Rattle.std.specs.Prelude.{◌≡◌, ◌+◌, ◌≤◌, ◌/◌, ◌%◌, get_or, length, take, drop};
+ghost use Rattle.std.proofs.Math.Seq.{paste};
 ghost use Rattle.endian.specs.Lists.{zeros, put_at, same};
 ghost use Rattle.endian.specs.Endian.{word, byte_of, first_bytes};
 
 // The word of four bytes.
-pub fn word(a: u8, b: u8, c: u8, d: u8) -> u32
-    ensures { result ≡ word (a ∷ b ∷ c ∷ d ∷ []) 0 }
+pub fn word(bytes: [u8; 4]) -> u32
+    ensures { result ≡ word bytes 0 }
 {
-    (a as u32) + (b as u32) * 256 + (c as u32) * 65536 + (d as u32) * 16777216
+    u32::from_le_bytes(bytes)
+}
+
+// The word at a place.
+pub fn word_at(bytes: &[u8], at: usize) -> u32
+    requires { at + 4 ≤ length bytes.now }
+    ensures { result ≡ word bytes.now at }
+{
+    word([bytes[at], bytes[at + 1], bytes[at + 2], bytes[at + 3]])
+}
+
+// N bytes from a place on.
+pub fn part<const N: usize>(bytes: &[u8], from: usize) -> [u8; N]
+    requires { from + N ≤ length bytes.now }
+    ensures { result ≡ take N (drop from bytes.now) }
+{
+    let mut p = [0u8; N];
+    p.copy_from_slice(&bytes[from..from + N]);
+    p
 }
 
 // Byte i of a word; 0 from byte 4 on.
@@ -37,11 +56,8 @@ fn byte_at(words: &[u32], i: usize) -> u8
 pub fn write_bytes(words: &[u32], out: &mut [u8])
     ensures { out.new ≡ first_bytes (length out.old) words.now }
 {
-    let mut i: usize = 0;
-    while i < out.len() {
-        let b = byte_at(words, i);
-        out[i] = b;
-        i += 1;
+    for (i, b) in out.iter_mut().enumerate() {
+        *b = byte_at(words, i);
     }
 }
 
@@ -49,25 +65,25 @@ pub fn write_bytes(words: &[u32], out: &mut [u8])
 pub fn clear(words: &mut [u32])
     ensures { words.new ≡ zeros (length words.old) }
 {
-    let mut i = 0;
-    while i < words.len() {
-        words[i] = 0;
-        i += 1;
-    }
+    words.fill(0);
+}
+
+// Writes bytes from a place on, where they fit.
+pub fn paste(out: &mut [u8], at: usize, src: &[u8])
+    requires { at + length src.now ≤ length out.old }
+    ensures { out.new ≡ paste out.old at src.now (length src.now) }
+{
+    out[at..at + src.len()].copy_from_slice(src);
 }
 
 // Writes bytes from a place on; where they do not fit, none.
 pub fn put(out: &mut [u8], from: usize, x: &[u8])
     ensures { out.new ≡ put_at from x.now out.old }
 {
-    if out.len() < from {
+    if out.len() < from || out.len() - from < x.len() {
         return;
     }
-    if out.len() - from < x.len() {
-        return;
-    }
-    let to = from + x.len();
-    out[from..to].copy_from_slice(x);
+    paste(out, from, x);
 }
 
 // Whether two slices hold the same bytes. Each is looked at, wherever they differ: without an early exit what calls this is small enough
@@ -79,10 +95,8 @@ pub fn equal(a: &[u8], b: &[u8]) -> bool
         return false;
     }
     let mut so_far = true;
-    let mut i: usize = 0;
-    while i < a.len() {
-        so_far = so_far & (a[i] == b[i]);
-        i += 1;
+    for (x, y) in a.iter().zip(b) {
+        so_far &= x == y;
     }
     so_far
 }
@@ -91,5 +105,5 @@ pub fn equal(a: &[u8], b: &[u8]) -> bool
 pub fn first(s: &[u8], n: usize) -> &[u8]
     ensures { result.now ≡ take n s.now }
 {
-    if n <= s.len() { &s[..n] } else { s }
+    &s[..n.min(s.len())]
 }

@@ -1,11 +1,10 @@
 -- What is proved about the header byte, for all numbers. The proof is `headers` in proofs/Headers.antt.
-use Rattle.std.specs.Prelude.{ℕ, ◌/◌, ◌%◌, ◌^◌, ◌<◌, ◌≤◌, ◌≡◌, ◌↔◌, ◌⊎◌}
+use Rattle.std.specs.Prelude.{ℕ, ◌/◌, ◌%◌, ◌^◌, ◌<◌, ◌≤◌, ◌≡◌, ◌↔◌, ◌⊎◌, Option}
 use Rattle.framing.specs.Header.{fields, bad, fields_at, good, stop, header_at, byte, refused, header_byte}
 use Rattle.framing.specs.Answers.{status_number, reading_of, fields_of, writing_of}
 use Rattle.framing.specs.declared.Header.{Header}
 use Rattle.framing.specs.declared.ReplyHeader.{ReplyHeader}
 use Rattle.framing.specs.declared.Status.{Status}
-use Rattle.framing.specs.declared.Written.{Written}
 
 abbrev pub bit : ℕ → ℕ → ℕ
 bit k b = b / 2 ^ k % 2
@@ -25,6 +24,6 @@ pub record Headers : Type 0 where
       → (header_byte id ep n (status_number s) ≡ refused 11) ↔ (((id ≤ 3) × (ep ≤ 3) × ((n ≡ 1) ⊎ ((n ≡ 4) ⊎ ((n ≡ 32) ⊎ (n ≡ 128))))) → ⊥)
   -- the reported values settle the answer
   pub statuses : (x y : Status) → status_number x ≡ status_number y → x ≡ y
-  pub reading : (x y : Header) → reading_of x ≡ reading_of y → x ≡ y
-  pub reply : (x y : ReplyHeader) → fields_of x ≡ fields_of y → x ≡ y
-  pub writing : (x y : Written) → writing_of x ≡ writing_of y → x ≡ y
+  pub reading : (x y : Option Header) → reading_of x ≡ reading_of y → x ≡ y
+  pub reply : (x y : Option ReplyHeader) → fields_of x ≡ fields_of y → x ≡ y
+  pub writing : (x y : Option ℕ) → writing_of x ≡ writing_of y → x ≡ y

@@ -2,7 +2,7 @@
 // Document 01, "Commands and replies", and change request 5 in the terms of specs/Commands.antt and specs/Replies.antt.
 #![tactic(auto)]
 
-ghost use Rattle.std.specs.Prelude.{◌≡◌, cond, take, drop};
+ghost use Rattle.std.specs.Prelude.{◌≡◌, cond, drop};
 ghost use Rattle.framing.specs.declared.Status.TheVariants.{Good, Bad};
 ghost use Rattle.protocol.specs.Commands.{length_ok, bytes_of, load_in, good_load, uses_uss, blocks_for, place_of, count_in, is_last};
 ghost use Rattle.protocol.specs.Replies.{reply_header, reply_with, name_reply, udi_reply, load_reply, block_reply, digest_reply};
@@ -32,24 +32,14 @@ pub struct Reply {
     pub body: [u8; 128],
 }
 
-// The user secret in a load's body.
-fn uss_in(body: [u8; 128]) -> [u8; 32]
-    ensures { result ≡ take 32 (drop 6 body) }
-{
-    let mut uss = [0u8; 32];
-    uss.copy_from_slice(&body[6..38]);
-    uss
-}
-
 // Reads a load.
 pub fn read_load(f: Frame) -> Load
     ensures { result ≡ load_in (bytes_of f) }
 {
-    let body = f.body;
     Load {
-        size: endian::word(body[1], body[2], body[3], body[4]),
-        flag: body[5],
-        uss: uss_in(body),
+        size: endian::word_at(&f.body, 1),
+        flag: f.body[5],
+        uss: endian::part(&f.body, 6),
     }
 }
 
@@ -57,10 +47,7 @@ pub fn read_load(f: Frame) -> Load
 pub fn length_ok(n: usize) -> bool
     ensures { result ≡ length_ok n }
 {
-    if n == 0 {
-        return false;
-    }
-    n <= 131072
+    0 < n && n <= 131072
 }
 
 // Whether a load is taken by a head with this much RAM.
@@ -68,13 +55,7 @@ pub fn load_is_good(l: Load, ram_len: usize) -> bool
     ensures { result ≡ good_load ram_len l }
 {
     let size = l.size as usize;
-    if size == 0 {
-        return false;
-    }
-    if ram_len < size {
-        return false;
-    }
-    l.flag <= 1
+    0 < size && size <= ram_len && l.flag <= 1
 }
 
 // Whether the user secret is used.
@@ -102,16 +83,7 @@ pub fn place_of(block: u32) -> usize
 pub fn count_in(size: u32, block: u32) -> usize
     ensures { result ≡ count_in size block }
 {
-    let from = place_of(block);
-    let size = size as usize;
-    if size <= from {
-        return 0;
-    }
-    let left = size - from;
-    if left < 127 {
-        return left;
-    }
-    127
+    (size as usize).saturating_sub(place_of(block)).min(127)
 }
 
 // Whether a block is a program's last one: without a division, which a head's processor need not have.
@@ -120,23 +92,14 @@ pub fn is_last(size: u32, block: u32) -> bool
 {
     let from = place_of(block);
     let size = size as usize;
-    if size <= from {
-        return false;
-    }
-    if from + 127 < size {
-        return false;
-    }
-    true
+    from < size && size <= from + 127
 }
 
 // The header of the reply to a command with this header.
 fn reply_header(header: u8, len: usize, status: Status) -> u8
     ensures { result ≡ reply_header header len status }
 {
-    match framing::write_header(framing::frame_id(header), 2, len, status) {
-        framing::Written::Byte(b) => b,
-        framing::Written::Refused => 0,
-    }
+    framing::write_header(framing::frame_id(header), 2, len, status).unwrap_or(0)
 }
 
 // A reply with a status, which stands in its header and after its code. Code and status are written over the first two bytes of the body.
@@ -144,7 +107,7 @@ fn with_status(header: u8, len: usize, code: u8, status: Status, mut body: [u8; 
     ensures { result ≡ reply_with header len code status (drop 2 body) }
 {
     body[0] = code;
-    body[1] = framing::status_number(status);
+    body[1] = status.into();
     Reply {
         header: reply_header(header, len, status),
         len,

@@ -1,10 +1,11 @@
 -- The reset record: document 01, "Reset record and lent memory", and change request 6. One table says where each field stands.
 use Rattle.std.specs.Prelude.{ℕ, ◌-◌, ◌/◌, ◌%◌, Bool, cond, List, eqb, ltb, take, drop}
+use Rattle.std.specs.Prelude as code
 use Rattle.std.proofs.Math.Option.{Option, none, some}
 use Rattle.endian.specs.Endian.{word}
 use Rattle.endian.specs.Lists.{zeros}
 use Rattle.record.specs.declared.ResetType.{ResetType}
-use Rattle.record.specs.declared.ResetType.TheVariants.{Flash0, Flash1, Flash0Ver, Flash1Ver, Client, ClientVer, Unknown}
+use Rattle.record.specs.declared.ResetType.TheVariants.{Flash0, Flash1, Flash0Ver, Flash1Ver, Client, ClientVer}
 use Rattle.record.specs.declared.Digests.{Digests}
 use Rattle.record.specs.declared.Record.{Record}
 
@@ -42,15 +43,15 @@ field_of f bytes = take f.size (drop f.from bytes)
 abbrev pub number_in : Field → List ℕ → ℕ
 number_in f bytes = word (field_of f bytes) 0
 
--- the number of each type; `Unknown` stands for every other number
-abbrev pub type_number : ResetType → Option ℕ
-type_number Flash0 = some 0
-type_number Flash1 = some 1
-type_number Flash0Ver = some 2
-type_number Flash1Ver = some 3
-type_number Client = some 4
-type_number ClientVer = some 5
-type_number Unknown = none
+-- the number of each type; `None` stands for every other number
+abbrev pub type_number : code.Option ResetType → Option ℕ
+type_number (code.Some Flash0) = some 0
+type_number (code.Some Flash1) = some 1
+type_number (code.Some Flash0Ver) = some 2
+type_number (code.Some Flash1Ver) = some 3
+type_number (code.Some Client) = some 4
+type_number (code.Some ClientVer) = some 5
+type_number code.None = none
 
 -- what the loader reads of a record: the number of its type, or none, mask bit 0, the allowed digests (first, second and has_second, mask bit 1)
 -- and measured_id

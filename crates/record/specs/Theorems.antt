@@ -1,6 +1,6 @@
 -- What is proved about the record besides the promise: that the number settles the type, which bits of the mask count, where the digests stand,
 -- which digest is allowed, and what is not read. The proof is `records` in proofs/Proved.antt.
-use Rattle.std.specs.Prelude.{ℕ, ◌+◌, ◌*◌, ◌≡◌, ◌↔◌, ◌⊎◌, Bool, true, false, cond, List, ◌++◌, length}
+use Rattle.std.specs.Prelude.{ℕ, ◌+◌, ◌*◌, ◌≡◌, ◌↔◌, ◌⊎◌, Bool, true, false, cond, List, ◌++◌, length, Option}
 use Rattle.endian.specs.Lists.{zeros}
 use Rattle.record.specs.Record.{mask_field, data_field, number_in, type_number, reset_seed, has_second, record_at}
 use Rattle.record.specs.Types.{one_of}
@@ -8,8 +8,8 @@ use Rattle.record.specs.declared.Digests.{Digests}
 use Rattle.record.specs.declared.ResetType.{ResetType}
 
 pub record Records : Type 0 where
-  -- no two types share a number, and only `Unknown` has none
-  pub types : (x y : ResetType) → type_number x ≡ type_number y → x ≡ y
+  -- no two types share a number, and only `None` has none
+  pub types : (x y : Option ResetType) → type_number x ≡ type_number y → x ≡ y
   -- bit 0 is RESET_SEED, bit 1 says that there is a second digest, and the others, k, are ignored
   pub bits : (seed second : Bool) (k : ℕ)
       → let mask = cond seed 1 0 + cond second 2 0 + 4 * k in (reset_seed mask ≡ seed) × (has_second mask ≡ second)

@@ -19,7 +19,6 @@ abbrev pub source_at : Place → Source
 source_at place.Slot0 = slot0
 source_at place.Slot1 = slot1
 source_at place.Client = client
-source_at place.Unknown = unknown
 
 abbrev pub is_type : Option ℕ → ℕ → Bool
 is_type (some t) n = eqb t n
