@@ -9,9 +9,8 @@ use mathlib.Core.List.{List, []}
 use lib.ListN.{length}
 use Rattle.endian.proofs.Cases.{impossible}
 use Rattle.rfc7693.specs.Rfc7693.{blake2s}
-use Rattle.blake2s.specs.Hash.{number_of, hash_number, hash_output}
-use Rattle.blake2s.specs.declared.Answer.{Answer}
-use Rattle.blake2s.specs.declared.Answer.TheVariants.{Accepted, ContextRange, OutputLength, KeyLength, MessageLength}
+use Rattle.endian.specs.Lists.{zeros}
+use Rattle.blake2s.specs.Hash.{hash_number, hash_output}
 use Rattle.blake2s.specs.Stream.{in_range, update_number, finish_number}
 use Rattle.blake2s.specs.declared.Context.{Context}
 
@@ -44,16 +43,9 @@ pub digest_32 : (msg out : List ℕ) → length msg ≤ 4294967295 → length ou
 unfolding hash_output
 digest_32 msg out h e = rw (e, hash_accepted 0 (length msg) 32 (omega arith) (omega arith) (omega arith) h)
 
--- another answer than the first is a refusal, and the first is none
-pub refused_tag : (a : Answer) → (a ≡ Accepted → ⊥) → number_of a ≡ 0 → ⊥
-refused_tag Accepted h e = h refl
-refused_tag ContextRange h e = omega arith
-refused_tag OutputLength h e = omega arith
-refused_tag KeyLength h e = omega arith
-refused_tag MessageLength h e = omega arith
-
-pub accepted_tag : (a : Answer) → a ≡ Accepted → number_of a ≡ 0
-accepted_tag a e = ap number_of e
+-- as the function `digest` gives it
+pub digest_zeros : (msg : List ℕ) → length msg ≤ 4294967295 → hash_output [] msg (zeros 32) ≡ blake2s [] msg 32
+digest_zeros msg h = digest_32 msg (zeros 32) h refl
 
 -- the lengths of a call that is accepted
 pub record Lengths (kk ll nn : ℕ) : Type 0 where

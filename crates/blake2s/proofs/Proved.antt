@@ -7,29 +7,30 @@ use native.Mathlib.Omega.{arith}
 use lib.Dec.{eqb}
 use lib.ListN.{length, length-append}
 use borrow.Author.Tests.{ne_eqb}
+use Rattle.std.specs.Prelude.{Result, Ok, Err, ⊤}
 use Rattle.blake2s.specs.Hash.{number_of, hash_number, hash_output}
 use Rattle.blake2s.specs.Stream.{begun, extended, in_range, begin_number, begin_context, update_number, update_context, finish_number, finish_output, refused_context}
 use Rattle.blake2s.specs.Theorems.{Streamed, Streaming, run, numbers, accepted_parts}
 use Rattle.blake2s.specs.declared.Context.{Context}
-use Rattle.blake2s.specs.declared.Answer.{Answer}
-use Rattle.blake2s.specs.declared.Answer.TheVariants.{Accepted, ContextRange, OutputLength, KeyLength, MessageLength}
+use Rattle.blake2s.specs.declared.Refusal.{Refusal}
+use Rattle.blake2s.specs.declared.Refusal.TheVariants.{ContextRange, OutputLength, KeyLength, MessageLength}
 use Rattle.blake2s.proofs.Numbers.{hash_accepted, Lengths, accepted_lengths, update_zero, update_accepted, finish_accepted, finish_not_one}
 use Rattle.blake2s.proofs.Streams.{in_parts, stream_size, streamed}
 use Rattle.blake2s.proofs.Sessions.{begun_nil, at_range, runs}
 
 -- the answer of a number
-answer : ℕ → Answer
-answer n = cond (eqb n 0) Accepted (cond (eqb n 1) ContextRange (cond (eqb n 8) OutputLength (cond (eqb n 9) KeyLength MessageLength)))
+answer : ℕ → Result ⊤ Refusal
+answer n = cond (eqb n 0) (Ok tt) (cond (eqb n 1) (Err ContextRange) (cond (eqb n 8) (Err OutputLength) (cond (eqb n 9) (Err KeyLength) (Err MessageLength))))
 
-answer_of : (x : Answer) → answer (number_of x) ≡ x
+answer_of : (x : Result ⊤ Refusal) → answer (number_of x) ≡ x
 unfolding answer
-answer_of Accepted = refl
-answer_of ContextRange = refl
-answer_of OutputLength = refl
-answer_of KeyLength = refl
-answer_of MessageLength = refl
+answer_of (Ok tt) = refl
+answer_of (Err ContextRange) = refl
+answer_of (Err OutputLength) = refl
+answer_of (Err KeyLength) = refl
+answer_of (Err MessageLength) = refl
 
-same_number : (x y : Answer) → number_of x ≡ number_of y → x ≡ y
+same_number : (x y : Result ⊤ Refusal) → number_of x ≡ number_of y → x ≡ y
 same_number x y e = sym (answer_of x) ∙ ap answer e ∙ answer_of y
 
 accepted_begin : (key : List ℕ) (nn : ℕ) → begin_number (length key) nn ≡ 0 → Lengths (length key) 0 nn

@@ -1,16 +1,20 @@
 -- The refusals of hashing: document 01, "Numbers of refused calls and of stops". Where several apply the lowest is given; 0 is none.
-use Rattle.std.specs.Prelude.{ℕ, Bool, cond, ◌||◌, List, eqb, ltb, length}
+use Rattle.std.specs.Prelude.{ℕ, Bool, cond, ◌||◌, List, eqb, ltb, length, Result, Ok, Err}
 use Rattle.rfc7693.specs.Rfc7693.{blake2s}
-use Rattle.blake2s.specs.declared.Answer.{Answer}
-use Rattle.blake2s.specs.declared.Answer.TheVariants.{Accepted, ContextRange, OutputLength, KeyLength, MessageLength}
+use Rattle.blake2s.specs.declared.Refusal.{Refusal}
+use Rattle.blake2s.specs.declared.Refusal.TheVariants.{ContextRange, OutputLength, KeyLength, MessageLength}
+
+-- the number of each refusal
+abbrev pub refusal_number : Refusal → ℕ
+refusal_number ContextRange = 1
+refusal_number OutputLength = 8
+refusal_number KeyLength = 9
+refusal_number MessageLength = 10
 
 -- the number of each answer
-abbrev pub number_of : Answer → ℕ
-number_of Accepted = 0
-number_of ContextRange = 1
-number_of OutputLength = 8
-number_of KeyLength = 9
-number_of MessageLength = 10
+abbrev pub number_of : {A : Type 0} → Result A Refusal → ℕ
+number_of (Ok _) = 0
+number_of (Err r) = refusal_number r
 
 -- a refused call leaves what was there
 abbrev pub kept : {A : Type 0} → ℕ → A → A → A

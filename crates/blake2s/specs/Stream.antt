@@ -1,11 +1,12 @@
 -- Hashing in parts. The calls of F are those of RFC 7693, 3.3, each made as soon as a byte has come that stands behind its block:
 -- a block is final until then, so a full one waits.
-use Rattle.std.specs.Prelude.{ℕ, ◌+◌, ◌-◌, ◌*◌, ◌/◌, Bool, true, false, cond, not, List, ◌++◌, eqb, length, take}
+use Rattle.std.specs.Prelude.{ℕ, ◌+◌, ◌-◌, ◌*◌, ◌/◌, Bool, true, false, cond, not, List, ◌++◌, eqb, length, take, Result, Ok, Err}
 use Rattle.rfc7693.specs.Rfc7693.{bb, words, F, block_at, leading, compressed, initial}
 use Rattle.endian.specs.Endian.{bytes}
 use Rattle.endian.specs.Lists.{padded, zeros}
 use Rattle.blake2s.specs.Hash.{bad_size, too_long, kept, hash_number}
 use Rattle.blake2s.specs.declared.Context.{Context}
+use Rattle.blake2s.specs.declared.Refusal.{Refusal}
 
 -- how many blocks of n bytes come before the final one
 unfoldable pub earlier : ℕ → ℕ
@@ -59,9 +60,14 @@ in_range c = not (bad_size c.size)
 unfoldable pub begin_number : ℕ → ℕ → ℕ
 begin_number kk nn = hash_number kk 0 nn
 
--- what a refused begin hands back: a context out of range, so that no later call takes it
+-- the context of a refused begin: out of range, so that no later call takes it
 unfoldable pub refused_context : Context
 refused_context = record { h = zeros 8; block = zeros 64; message = 0; keyed = false; size = 0 }
+
+-- the context of what begin answers
+abbrev pub context_of : Result Context Refusal → Context
+context_of (Ok c) = c
+context_of (Err _) = refused_context
 
 unfoldable pub begin_context : List ℕ → ℕ → Context
 begin_context key nn = kept (begin_number (length key) nn) (begun key nn) refused_context

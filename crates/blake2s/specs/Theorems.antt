@@ -1,8 +1,8 @@
 -- What is proved about hashing besides the promises. The proof is `streaming` in proofs/Proved.antt.
-use Rattle.std.specs.Prelude.{ℕ, ◌≡◌, true, List, [], ◌∷◌, ◌++◌, ◌↔◌, length, get_or}
+use Rattle.std.specs.Prelude.{ℕ, ◌≡◌, true, List, [], ◌∷◌, ◌++◌, ◌↔◌, length, get_or, Result, ⊤}
 use Rattle.blake2s.specs.Hash.{number_of, kept, hash_number, hash_output}
 use Rattle.blake2s.specs.Stream.{in_range, begin_number, begin_context, update_number, update_context, finish_number, finish_output}
-use Rattle.blake2s.specs.declared.Answer.{Answer}
+use Rattle.blake2s.specs.declared.Refusal.{Refusal}
 use Rattle.blake2s.specs.declared.Context.{Context}
 
 -- calls of update, one for each part, each on the context that the one before handed back: the last context,
@@ -32,7 +32,7 @@ pub record Streamed (key : List ℕ) (nn : ℕ) (c : Context) (answers x : List 
 
 pub record Streaming : Type 0 where
   -- the number settles the answer
-  pub answers : (x y : Answer) → number_of x ≡ number_of y → x ≡ y
+  pub answers : (x y : Result ⊤ Refusal) → number_of x ≡ number_of y → x ≡ y
   -- so it is after every accepted begin, for every list of updates, refused ones included
   pub streamed : (key : List ℕ) (nn : ℕ) (parts : List (List ℕ)) → begin_number (length key) nn ≡ 0
       → Streamed key nn (run (begin_context key nn) parts) (numbers (begin_context key nn) parts) (accepted_parts (begin_context key nn) parts)

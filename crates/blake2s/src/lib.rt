@@ -4,14 +4,14 @@
 
 mod stream;
 
-ghost use Rattle.std.specs.Prelude.{◌≡◌, length};
-ghost use Rattle.blake2s.specs.Hash.{number_of, hash_number, hash_output};
-ghost use Rattle.blake2s.specs.Stream.{begin_number, begin_context, update_number, update_context, finish_number, finish_output, refused_context};
+ghost use Rattle.std.specs.Prelude.{◌≡◌, [], length};
+ghost use Rattle.endian.specs.Lists.{zeros};
+ghost use Rattle.blake2s.specs.Hash.{refusal_number, number_of, hash_number, hash_output};
+ghost use Rattle.blake2s.specs.Stream.{begin_number, context_of, begin_context, update_number, update_context, finish_number, finish_output, refused_context};
 
-// What a call answers: it was accepted, or the reason why it was refused and changed nothing.
-#[derive(Clone, Copy)]
-pub enum Answer {
-    Accepted,
+// Why a call was refused; it then changed nothing.
+#[derive(Clone, Copy, Debug, PartialEq, Eq)]
+pub enum Refusal {
     // A field of the context is out of range.
     ContextRange,
     // The output has 0 bytes, more than 32, or not as many as begin was told.
@@ -20,6 +20,20 @@ pub enum Answer {
     KeyLength,
     // The message has more than 4,294,967,295 bytes in all.
     MessageLength,
+}
+
+// The number that document 01 gives a refusal.
+impl From<Refusal> for u32 {
+    ghost from_gives = { λ r n. n ≡ refusal_number r };
+
+    fn from(r: Refusal) -> u32 {
+        match r {
+            Refusal::ContextRange => 1,
+            Refusal::OutputLength => 8,
+            Refusal::KeyLength => 9,
+            Refusal::MessageLength => 10,
+        }
+    }
 }
 
 // A hash that is being made. How many bytes are compressed and how many wait in the block follows from message and keyed.
@@ -37,130 +51,90 @@ pub struct Context {
     pub size: usize,
 }
 
-// What begin and update answer, and the next context.
-#[derive(Clone, Copy)]
-pub struct Next {
-    pub answer: Answer,
-    pub context: Context,
-}
+// No hash: the context is out of range, so that it can't be taken for a begun one.
+impl Default for Context {
+    ghost is_default = { λ c. c ≡ refused_context };
 
-// Whether a hash of size bytes can be made with a key and a message of these lengths: the lowest refusal, or none.
-fn check_lengths(key: usize, msg: usize, size: usize) -> Answer
-    ensures { number_of result ≡ hash_number key msg size }
-{
-    if size == 0 {
-        return Answer::OutputLength;
-    }
-    if 32 < size {
-        return Answer::OutputLength;
-    }
-    if 32 < key {
-        return Answer::KeyLength;
-    }
-    if 4294967295 < msg {
-        return Answer::MessageLength;
-    }
-    Answer::Accepted
-}
-
-// Begins a hash of size bytes, 1 to 32, with a key of up to 32 bytes, empty for none.
-pub fn begin(key: &[u8], size: usize) -> Next
-    ensures { (number_of result.answer ≡ begin_number (length key.now) size) × (result.context ≡ begin_context key.now size) }
-{
-    let answer = check_lengths(key.len(), 0, size);
-    let Answer::Accepted = answer else {
-        return refused_begin(answer);
-    };
-    Next {
-        answer: answer,
-        context: stream::begun(key, size),
-    }
-}
-
-// The answer of a begin that is refused. Its context is out of range, so that it can't be taken for a begun one.
-fn refused_begin(answer: Answer) -> Next
-    ensures { (result.answer ≡ answer) × (result.context ≡ refused_context) }
-{
-    Next {
-        answer: answer,
-        context: Context {
+    fn default() -> Context {
+        Context {
             h: [0; 8],
             block: [0; 64],
             message: 0,
             keyed: false,
             size: 0,
-        },
+        }
     }
 }
 
-// Takes the next part of the message.
-pub fn update(c: Context, part: &[u8]) -> Next
-    ensures { (number_of result.answer ≡ update_number c (length part.now)) × (result.context ≡ update_context c part.now) }
-{
-    if !stream::in_range(c) {
-        return Next {
-            answer: Answer::ContextRange,
-            context: c,
-        };
+impl Context {
+    // Begins a hash of size bytes, 1 to 32, with a key of up to 32 bytes, empty for none.
+    pub fn begin(key: &[u8], size: usize) -> Result<Context, Refusal>
+        ensures { (number_of result ≡ begin_number (length key.now) size) × (context_of result ≡ begin_context key.now size) }
+    {
+        check_lengths(key.len(), 0, size)?;
+        Ok(stream::begun(key, size))
     }
-    let left = 4294967295 - c.message;
-    if (left as usize) < part.len() {
-        return Next {
-            answer: Answer::MessageLength,
-            context: c,
-        };
+
+    // Takes the next part of the message.
+    pub fn update(&mut self, part: &[u8]) -> Result<(), Refusal>
+        ensures { (number_of result ≡ update_number self.old (length part.now)) × (self.new ≡ update_context self.old part.now) }
+    {
+        if !stream::in_range(*self) {
+            return Err(Refusal::ContextRange);
+        }
+        let left = u32::MAX - self.message;
+        if (left as usize) < part.len() {
+            return Err(Refusal::MessageLength);
+        }
+        *self = stream::extended(*self, part);
+        Ok(())
     }
-    Next {
-        answer: Answer::Accepted,
-        context: stream::extended(c, part),
+
+    // Writes the hash of the parts to out, which has as many bytes as begin was told.
+    pub fn finish(&self, out: &mut [u8]) -> Result<(), Refusal>
+        ensures { (number_of result ≡ finish_number self.now (length out.old)) × (out.new ≡ finish_output self.now out.old) }
+    {
+        if !stream::in_range(*self) {
+            return Err(Refusal::ContextRange);
+        }
+        if out.len() != self.size {
+            return Err(Refusal::OutputLength);
+        }
+        stream::closed(*self, out);
+        Ok(())
     }
 }
 
-// Writes the hash of the parts to out, which has as many bytes as begin was told.
-pub fn finish(c: Context, out: &mut [u8]) -> Answer
-    ensures { (number_of result ≡ finish_number c (length out.old)) × (out.new ≡ finish_output c out.old) }
+// Whether a hash of size bytes can be made with a key and a message of these lengths: the lowest refusal, or none.
+fn check_lengths(key: usize, msg: usize, size: usize) -> Result<(), Refusal>
+    ensures { number_of result ≡ hash_number key msg size }
 {
-    if !stream::in_range(c) {
-        return Answer::ContextRange;
+    if size == 0 || 32 < size {
+        return Err(Refusal::OutputLength);
     }
-    let size = c.size;
-    if out.len() != size {
-        return Answer::OutputLength;
+    if 32 < key {
+        return Err(Refusal::KeyLength);
     }
-    stream::closed(c, out);
-    Answer::Accepted
+    if 4294967295 < msg {
+        return Err(Refusal::MessageLength);
+    }
+    Ok(())
 }
 
 // Writes the hash of a message with a key, which may be empty, in one call. out has as many bytes as the hash is to have.
-pub fn hash(key: &[u8], msg: &[u8], out: &mut [u8]) -> Answer
+pub fn hash(key: &[u8], msg: &[u8], out: &mut [u8]) -> Result<(), Refusal>
     ensures { (number_of result ≡ hash_number (length key.now) (length msg.now) (length out.old)) × (out.new ≡ hash_output key.now msg.now out.old) }
 {
-    let size = out.len();
-    let answer = check_lengths(key.len(), msg.len(), size);
-    let Answer::Accepted = answer else {
-        return answer;
-    };
+    check_lengths(key.len(), msg.len(), out.len())?;
     stream::whole(key, msg, out);
-    answer
+    Ok(())
 }
 
-// The number that document 01 gives an answer; 0 where the call is accepted.
-pub fn answer_number(a: Answer) -> u32
-    ensures { result ≡ number_of a }
+// The hash of 32 bytes of a message without a key; zeros for a message that is too long.
+pub fn digest(msg: &[u8]) -> [u8; 32]
+    ensures { result ≡ hash_output [] msg.now (zeros 32) }
 {
-    match a {
-        Answer::Accepted => 0,
-        Answer::ContextRange => 1,
-        Answer::OutputLength => 8,
-        Answer::KeyLength => 9,
-        Answer::MessageLength => 10,
-    }
-}
-
-// hash, for C: include/mastfrap.h.
-pub fn mastfrap_blake2s(key: &[u8], msg: &[u8], out: &mut [u8]) -> u32
-    ensures { (result ≡ hash_number (length key.now) (length msg.now) (length out.old)) × (out.new ≡ hash_output key.now msg.now out.old) }
-{
-    let a = hash(key, msg, out);
-    answer_number(a)
+    let mut out = [0; 32];
+    let _ = hash(&[], msg, &mut out);
+    out
 }

@@ -1,4 +1,4 @@
-// blake2s for C: include/mastfrap.h. The contract is that of the function that is called.
+// blake2s for C: include/mastfrap.h.
 #![tactic(auto)]
 
 ghost use Rattle.std.specs.Prelude.{◌≡◌, length};
@@ -8,5 +8,8 @@ ghost use Rattle.blake2s.specs.Hash.{hash_number, hash_output};
 pub extern "C" fn mastfrap_blake2s(key: &[u8], msg: &[u8], out: &mut [u8]) -> u32
     ensures { (result ≡ hash_number (length key.now) (length msg.now) (length out.old)) × (out.new ≡ hash_output key.now msg.now out.old) }
 {
-    blake2s::mastfrap_blake2s(key, msg, out)
+    match blake2s::hash(key, msg, out) {
+        Ok(()) => 0,
+        Err(r) => r.into(),
+    }
 }
