@@ -38,7 +38,7 @@ fn digest(msg: &[u8]) -> [u8; 32]
 {
     let key = [0u8; 0];
     let mut d = [0u8; 32];
-    blake2s::hash(&key, msg, &mut d);
+    let _ = blake2s::hash(&key, msg, &mut d);
     d
 }
 

@@ -99,7 +99,7 @@ fn mix(cdi: &[u8], seed: &[u8]) -> [u8; 32]
     let mut d = [0u8; 32];
     put(&mut both, 0, cdi);
     put(&mut both, 32, seed);
-    blake2s::hash(&key, &both, &mut d);
+    let _ = blake2s::hash(&key, &both, &mut d);
     d
 }
 

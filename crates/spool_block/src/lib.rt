@@ -42,7 +42,7 @@ fn check_of(b: &[u8]) -> [u8; 32]
 {
     let key = [0u8; 0];
     let mut d = [0u8; 32];
-    blake2s::hash(&key, &b[..480], &mut d);
+    let _ = blake2s::hash(&key, &b[..480], &mut d);
     d
 }
 

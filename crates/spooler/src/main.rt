@@ -147,7 +147,7 @@ fn list_block(rt: &HostRuntime, place: usize, answer: Answer) -> io::Result<()> 
 fn line(len: usize, program: &[u8]) -> Text {
     let key = [0u8; 0];
     let mut digest = [0u8; 32];
-    blake2s::hash(&key, program, &mut digest);
+    let _ = blake2s::hash(&key, program, &mut digest);
     words::line(len / 512, program.len(), digest)
 }
 
