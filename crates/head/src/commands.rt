@@ -1,82 +1,59 @@
 // What a whole frame asks for: document 01, the table of commands.
-ghost use Rattle.std.specs.Prelude.{◌≡◌};
-ghost use Rattle.head.specs.Act.{request_waiting, request_loading, request_in, request_of, loaded};
-ghost use Rattle.head.specs.Steps.{request_for, frame_of};
+ghost use Rattle.std.specs.Prelude.{◌≡◌, ◌<◌};
+ghost use Rattle.protocol.specs.Commands.{longest};
+ghost use Rattle.head.specs.Act.{sized, request_in, request_of, loaded, next_block};
+ghost use Rattle.head.specs.Steps.{request, request_for, frame_of};
 
-use super::{Action, Incoming, Phase, Progress, State};
+use super::{Action, Incoming, Phase, Progress, State, Stop};
 use protocol::{Frame, Load};
 
-// A command while waiting, by its number and its body's length.
-fn action_waiting(command: u8, len: u8) -> Action
-    ensures { request_for result ≡ request_waiting command len }
+// An action whose command has this body length.
+fn sized(wanted: u8, len: u8, action: Action) -> Result<Action, Stop>
+    ensures { request_for result ≡ sized wanted len (request action) }
 {
-    match command {
-        0x01 => if len == 1 {
-            Action::AnswerName
-        } else {
-            Action::StopLength
-        },
-        0x08 => if len == 1 {
-            Action::AnswerUdi
-        } else {
-            Action::StopLength
-        },
-        0x03 => if len == 128 {
-            Action::TakeLoad
-        } else {
-            Action::StopLength
-        },
-        0x05 => Action::StopCommand,
-        0 | 2 | 4 | 6..=7 | 9..=255 => Action::StopCommand,
+    if len != wanted {
+        return Err(Stop::BodyLength);
     }
+    Ok(action)
 }
 
-// A command while loading.
-fn action_loading(command: u8, len: u8) -> Action
-    ensures { request_for result ≡ request_loading command len }
-{
-    match command {
-        0x05 => if len == 128 {
-            Action::TakeBlock
-        } else {
-            Action::StopLength
-        },
-        0x01 | 0x03 | 0x08 => Action::StopCommand,
-        0 | 2 | 4 | 6..=7 | 9..=255 => Action::StopCommand,
-    }
-}
-
-// A command.
-fn action_in(phase: Phase, command: u8, len: u8) -> Action
+// A command, by its number and its body's length.
+fn action_in(phase: Phase, command: u8, len: u8) -> Result<Action, Stop>
     ensures { request_for result ≡ request_in phase command len }
 {
-    match phase {
-        Phase::Waiting => action_waiting(command, len),
-        Phase::Loading => action_loading(command, len),
-        Phase::Started => Action::StopCommand,
-        Phase::Stopped => Action::StopCommand,
+    match (phase, command) {
+        (Phase::Waiting, 0x01) => sized(1, len, Action::AnswerName),
+        (Phase::Waiting, 0x08) => sized(1, len, Action::AnswerUdi),
+        (Phase::Waiting, 0x03) => sized(128, len, Action::TakeLoad),
+        (Phase::Loading, 0x05) => sized(128, len, Action::TakeBlock),
+        _ => Err(Stop::Command),
     }
 }
 
 // What the frame that was gathered asks for.
-pub fn decide(s: State) -> Action
+pub fn decide(s: State) -> Result<Action, Stop>
     ensures { request_for result ≡ request_of s }
 {
-    let p = s.progress;
-    let phase = p.phase;
-    let i = s.incoming;
-    let body = i.body;
-    action_in(phase, body[0], framing::body_len(i.header))
+    action_in(
+        s.progress.phase,
+        s.incoming.body[0],
+        framing::body_len(s.incoming.header),
+    )
 }
 
 // The frame that was gathered.
-pub fn frame_of(i: Incoming) -> Frame
-    ensures { result ≡ frame_of i }
-{
-    let body = i.body;
-    Frame {
-        header: i.header,
-        body,
+impl From<Incoming> for Frame {
+    ghost from_gives = { λ i f. f ≡ frame_of i };
+
+    fn from(i: Incoming) -> Frame
+        ensures { result ≡ frame_of i }
+    {
+        let Incoming {
+            header,
+            got: _,
+            body,
+        } = i;
+        Frame { header, body }
     }
 }
 
@@ -84,12 +61,27 @@ pub fn frame_of(i: Incoming) -> Frame
 pub fn loaded(l: Load) -> Progress
     ensures { result ≡ loaded l }
 {
-    let uss = l.uss;
+    let Load {
+        size,
+        flag: _,
+        uss,
+    } = l;
     Progress {
         phase: Phase::Loading,
-        size: l.size,
+        size,
         block: 0,
         uss_used: protocol::uses_uss(l),
         uss,
+    }
+}
+
+// The progress after a block that is not the last.
+pub fn next_block(p: Progress) -> Progress
+    requires { p.block < longest }
+    ensures { result ≡ next_block p }
+{
+    Progress {
+        block: p.block + 1,
+        ..p
     }
 }

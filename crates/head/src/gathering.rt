@@ -2,75 +2,68 @@
 ghost use Rattle.std.specs.Prelude.{◌≡◌, true, false, ◌≤◌};
 ghost use Rattle.framing.specs.Header.{header_at};
 ghost use Rattle.head.specs.State.{is_whole, incoming_ok};
-ghost use Rattle.head.specs.Answers.{gathering_of};
+ghost use Rattle.head.specs.Answers.{gathering_in, gathering_of};
 ghost use Rattle.head.specs.Gather.{taken, bad, opened, in_body, byte_step, after_step, gathered};
 
-use super::{Admission, Answer, Gathered, Incoming, Phase, State, Stop, states};
+use super::{Answer, Incoming, Phase, Refusal, State, Step, Stop, states};
 use framing::Header;
 
 // A byte was taken, and this is the frame so far.
-fn go_on(s: State, incoming: Incoming) -> Gathered
-    ensures { gathering_of result ≡ after_step (taken incoming) s }
+fn go_on(s: State, incoming: Incoming) -> Step
+    ensures { gathering_in result ≡ after_step (taken incoming) s }
 {
-    let config = s.config;
-    let progress = s.progress;
-    let state = State {
-        incoming,
-        config,
-        progress,
-    };
+    let state = State { incoming, ..s };
     if states::is_whole(incoming.header, incoming.got) {
-        return Gathered {
+        return Step {
             answer: Answer::Whole,
             state,
         };
     }
-    Gathered {
+    Step {
         answer: Answer::Continue,
         state,
     }
 }
 
 // A bad header.
-fn stop(s: State) -> Gathered
-    ensures { gathering_of result ≡ after_step bad s }
+fn stop(s: State) -> Step
+    ensures { gathering_in result ≡ after_step bad s }
 {
-    Gathered {
+    Step {
         answer: Answer::Stopped(Stop::HeaderBit),
         state: states::ended(Phase::Stopped, s.config.ram_len),
     }
 }
 
 // A header.
-fn open(s: State, b: u8) -> Gathered
-    ensures { gathering_of result ≡ after_step (opened (header_at b) s.incoming b) s }
+fn open(s: State, b: u8) -> Step
+    ensures { gathering_in result ≡ after_step (opened (header_at b) s.incoming b) s }
 {
     match framing::read_header(b) {
-        Header::Good {
-            id: _,
-            endpoint: _,
-            len: _,
-        } => {
-            let mut next = s.incoming;
-            next.header = b;
-            next.got = 1;
-            go_on(s, next)
-        }
+        Header::Good { .. } => go_on(
+            s,
+            Incoming {
+                header: b,
+                got: 1,
+                ..s.incoming
+            },
+        ),
         Header::Bad => stop(s),
     }
 }
 
 // A byte of the body that a header announced: it is kept where the frame is for the firmware.
-fn in_body(s: State, endpoint: u8, len: u8, b: u8) -> Gathered
+fn in_body(s: State, endpoint: u8, len: u8, b: u8) -> Step
     requires { (1 ≤ s.incoming.got) × (s.incoming.got ≤ 128) }
-    ensures { gathering_of result ≡ after_step (taken (in_body s.incoming endpoint len b)) s }
+    ensures { gathering_in result ≡ after_step (taken (in_body s.incoming endpoint len b)) s }
 {
     let i = s.incoming;
-    let mut next = i;
-    next.got = i.got + 1;
+    let mut next = Incoming {
+        got: i.got + 1,
+        ..i
+    };
     if endpoint == 2 {
-        let at = (i.got - 1) as usize;
-        next.body[at] = b;
+        next.body[(i.got - 1) as usize] = b;
         return go_on(s, next);
     }
     if i.got == len {
@@ -80,10 +73,10 @@ fn in_body(s: State, endpoint: u8, len: u8, b: u8) -> Gathered
 }
 
 // A byte of a call that is not refused.
-fn take(s: State, b: u8) -> Gathered
+fn take(s: State, b: u8) -> Step
     requires incoming_value { incoming_ok s.incoming ≡ true }
     requires incoming_value_2 { is_whole s.incoming ≡ false }
-    ensures { gathering_of result ≡ after_step (byte_step s.incoming b) s }
+    ensures { gathering_in result ≡ after_step (byte_step s.incoming b) s }
 {
     let i = s.incoming;
     if i.got == 0 {
@@ -100,14 +93,9 @@ fn take(s: State, b: u8) -> Gathered
 }
 
 // Gathers a byte, and says when a frame for the firmware is whole. A refused call changes nothing.
-pub fn gather(s: State, byte: u8) -> Gathered
-    ensures { gathering_of result ≡ gathered s byte }
+pub fn gather(s: State, byte: u8) -> Result<Step, Refusal>
+    ensures { gathering_of result s ≡ gathered s byte }
 {
-    match super::admit_gather(s) {
-        Admission::Refused(why) => Gathered {
-            answer: Answer::Refused(why),
-            state: s,
-        },
-        Admission::Admitted => take(s, byte),
-    }
+    super::admit_gather(s)?;
+    Ok(take(s, byte))
 }

@@ -14,13 +14,13 @@ ghost use Rattle.head.specs.Gather.{gather_refusal};
 ghost use Rattle.head.specs.Act.{act_refusal};
 ghost use Rattle.head.specs.Answers.{refusal_number, stop_number, admission_number};
 
-pub use commands::{decide, frame_of, loaded};
+pub use commands::{decide, loaded, next_block};
 pub use gathering::gather;
 use record::Digests;
 pub use states::{allowed, config_of, ended, fits, frame_ok, idle, is_whole, load_ok, of_size};
 
 // Where a session stands.
-#[derive(Clone, Copy)]
+#[derive(Clone, Copy, Debug, PartialEq, Eq)]
 pub enum Phase {
     // Queries are answered, and a load is waited for.
     Waiting,
@@ -74,7 +74,7 @@ pub struct State {
 }
 
 // Why a call was refused: document 01's refusals 1 to 7, and 47. Begin gives 5 to 7, `gather` 1, 2 and 47, `act` 1 to 5 and 47.
-#[derive(Clone, Copy)]
+#[derive(Clone, Copy, Debug, PartialEq, Eq)]
 pub enum Refusal {
     // A field of the state is out of its range.
     StateRange,
@@ -95,7 +95,7 @@ pub enum Refusal {
 }
 
 // Why the head stopped: document 01's stops 20 and 22 to 25, and 26 of change request 3. Begin gives 20, 25 and 26, `gather` 22, `act` 23 to 25.
-#[derive(Clone, Copy)]
+#[derive(Clone, Copy, Debug, PartialEq, Eq)]
 pub enum Stop {
     // The record's type is 6 or above.
     UnknownType,
@@ -111,33 +111,30 @@ pub enum Stop {
     ProgramSize,
 }
 
-// What a call answers.
+// A start: the program of this size at the front of RAM is to run, from this address.
+#[derive(Clone, Copy)]
+pub struct Start {
+    pub address: u32,
+    pub size: u32,
+    pub cdi: [u8; 32],
+    // The program's digest.
+    pub digest: [u8; 32],
+}
+
+// What a call answers that is not refused.
 #[derive(Clone, Copy)]
 pub enum Answer {
-    // Nothing has changed.
-    Refused(Refusal),
     // The record or the byte is taken, or the frame was acted on, and the session goes on.
     Continue,
     // The byte is taken, and with it a frame for the firmware is whole: it is to be acted on.
     Whole,
     Stopped(Stop),
-    // The program of this size at the front of RAM is to run, from this address.
-    Started { address: u32, size: u32 },
+    Started(Start),
 }
 
-// What begin gives back, and what comes of a program that was measured.
+// What begin and gathering a byte give back, and what comes of a program that was measured.
 #[derive(Clone, Copy)]
-pub struct Begun {
-    pub answer: Answer,
-    // The CDI and the program's digest at a start; otherwise zeros.
-    pub cdi: [u8; 32],
-    pub digest: [u8; 32],
-    pub state: State,
-}
-
-// What gathering a byte gives back.
-#[derive(Clone, Copy)]
-pub struct Gathered {
+pub struct Step {
     pub answer: Answer,
     pub state: State,
 }
@@ -148,116 +145,109 @@ pub struct Acted {
     pub answer: Answer,
     // How many bytes at the front of the reply room are a reply: 0 for none.
     pub reply: usize,
-    // The CDI and the program's digest at a start; otherwise zeros.
-    pub cdi: [u8; 32],
-    pub digest: [u8; 32],
     pub state: State,
 }
 
-// What is done with a whole frame.
+// What is done with a whole frame that does not stop the head.
 #[derive(Clone, Copy)]
 pub enum Action {
     AnswerName,
     AnswerUdi,
     TakeLoad,
     TakeBlock,
-    // The command is not allowed in this phase, or unknown.
-    StopCommand,
-    // The command has another body length.
-    StopLength,
 }
 
 // The number of a refusal: document 01's, and 47 of change request 8.
-pub fn refusal_number(r: Refusal) -> u8
-    ensures { result ≡ refusal_number r }
-{
-    match r {
-        Refusal::StateRange => 1,
-        Refusal::Ended => 2,
-        Refusal::ReplyRoom => 3,
-        Refusal::RamLength => 4,
-        Refusal::SecretLength => 5,
-        Refusal::RecordLength => 6,
-        Refusal::RamSize => 7,
-        Refusal::OutOfTurn => 47,
+impl From<Refusal> for u8 {
+    ghost from_gives = { λ r n. n ≡ refusal_number r };
+
+    fn from(r: Refusal) -> u8
+        ensures { result ≡ refusal_number r }
+    {
+        match r {
+            Refusal::StateRange => 1,
+            Refusal::Ended => 2,
+            Refusal::ReplyRoom => 3,
+            Refusal::RamLength => 4,
+            Refusal::SecretLength => 5,
+            Refusal::RecordLength => 6,
+            Refusal::RamSize => 7,
+            Refusal::OutOfTurn => 47,
+        }
     }
 }
 
 // The number of a stop.
-pub fn stop_number(s: Stop) -> u8
-    ensures { result ≡ stop_number s }
-{
-    match s {
-        Stop::UnknownType => 20,
-        Stop::HeaderBit => 22,
-        Stop::Command => 23,
-        Stop::BodyLength => 24,
-        Stop::Digest => 25,
-        Stop::ProgramSize => 26,
+impl From<Stop> for u8 {
+    ghost from_gives = { λ s n. n ≡ stop_number s };
+
+    fn from(s: Stop) -> u8
+        ensures { result ≡ stop_number s }
+    {
+        match s {
+            Stop::UnknownType => 20,
+            Stop::HeaderBit => 22,
+            Stop::Command => 23,
+            Stop::BodyLength => 24,
+            Stop::Digest => 25,
+            Stop::ProgramSize => 26,
+        }
     }
 }
 
-// Whether a call is admitted.
-#[derive(Clone, Copy)]
-pub enum Admission {
-    Admitted,
-    Refused(Refusal),
-}
-
-// The first refusal that applies to a begin with so many bytes and words lent, or none.
-pub fn admit_begin(record: usize, ram: usize, uds: usize) -> Admission
+// Refuses a begin with so many bytes and words lent by the first refusal that applies.
+pub fn admit_begin(record: usize, ram: usize, uds: usize) -> Result<(), Refusal>
     ensures { admission_number result ≡ begin_refusal «record» ram uds }
 {
     if uds != 8 {
-        return Admission::Refused(Refusal::SecretLength);
+        return Err(Refusal::SecretLength);
     }
     if record != 256 {
-        return Admission::Refused(Refusal::RecordLength);
+        return Err(Refusal::RecordLength);
     }
     if !protocol::length_ok(ram) {
-        return Admission::Refused(Refusal::RamSize);
+        return Err(Refusal::RamSize);
     }
-    Admission::Admitted
+    Ok(())
 }
 
-// The first refusal that applies to gathering in a state, or none.
-pub fn admit_gather(s: State) -> Admission
+// Refuses gathering in a state by the first refusal that applies.
+pub fn admit_gather(s: State) -> Result<(), Refusal>
     ensures { admission_number result ≡ gather_refusal s }
 {
     if !states::in_range(s) {
-        return Admission::Refused(Refusal::StateRange);
+        return Err(Refusal::StateRange);
     }
     if !states::is_live(s.progress) {
-        return Admission::Refused(Refusal::Ended);
+        return Err(Refusal::Ended);
     }
     if states::is_whole(s.incoming.header, s.incoming.got) {
-        return Admission::Refused(Refusal::OutOfTurn);
+        return Err(Refusal::OutOfTurn);
     }
-    Admission::Admitted
+    Ok(())
 }
 
-// The first refusal that applies to acting in a state with so many bytes and words lent, or none.
-pub fn admit_act(s: State, room: usize, ram: usize, uds: usize) -> Admission
+// Refuses acting in a state with so many bytes and words lent by the first refusal that applies.
+pub fn admit_act(s: State, room: usize, ram: usize, uds: usize) -> Result<(), Refusal>
     ensures { admission_number result ≡ act_refusal s room ram uds }
 {
-    let ram_len = s.config.ram_len;
     if !states::in_range(s) {
-        return Admission::Refused(Refusal::StateRange);
+        return Err(Refusal::StateRange);
     }
     if !states::is_live(s.progress) {
-        return Admission::Refused(Refusal::Ended);
+        return Err(Refusal::Ended);
     }
     if !states::is_whole(s.incoming.header, s.incoming.got) {
-        return Admission::Refused(Refusal::OutOfTurn);
+        return Err(Refusal::OutOfTurn);
     }
     if room < 129 {
-        return Admission::Refused(Refusal::ReplyRoom);
+        return Err(Refusal::ReplyRoom);
     }
-    if ram != ram_len {
-        return Admission::Refused(Refusal::RamLength);
+    if ram != s.config.ram_len {
+        return Err(Refusal::RamLength);
     }
     if uds != 8 {
-        return Admission::Refused(Refusal::SecretLength);
+        return Err(Refusal::SecretLength);
     }
-    Admission::Admitted
+    Ok(())
 }

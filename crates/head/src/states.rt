@@ -13,13 +13,9 @@ use record::{Digests, Record};
 pub fn is_whole(header: u8, got: u8) -> bool
     ensures { result ≡ whole_by (header_at header) got }
 {
-    if !framing::is_good(header) {
-        return false;
-    }
-    if framing::endpoint(header) != 2 {
-        return false;
-    }
-    got as usize == framing::body_len(header) as usize + 1
+    framing::is_good(header)
+        && framing::endpoint(header) == 2
+        && got == framing::body_len(header) + 1
 }
 
 // Whether the frame that is being gathered, or is whole, is in its range.
@@ -29,10 +25,7 @@ pub fn frame_ok(header: u8, got: u8) -> bool
     if got == 0 {
         return header == 0;
     }
-    if got <= framing::body_len(header) {
-        return true;
-    }
-    is_whole(header, got)
+    got <= framing::body_len(header) || is_whole(header, got)
 }
 
 // Whether the numbers of a load are in their range. The block is tested by its place, without a division.
@@ -40,24 +33,15 @@ pub fn load_ok(size: u32, block: u32, ram_len: usize) -> bool
     ensures { result ≡ load_ok size block ram_len }
 {
     let n = size as usize;
-    if n == 0 {
-        return false;
-    }
-    if ram_len < n {
-        return false;
-    }
-    protocol::place_of(block) < n
+    1 <= n && n <= ram_len && protocol::place_of(block) < n
 }
 
 fn progress_ok(p: Progress, ram_len: usize) -> bool
     ensures { result ≡ progress_ok p ram_len }
 {
-    let phase = p.phase;
-    match phase {
-        Phase::Waiting => true,
+    match p.phase {
         Phase::Loading => load_ok(p.size, p.block, ram_len),
-        Phase::Started => true,
-        Phase::Stopped => true,
+        Phase::Waiting | Phase::Started | Phase::Stopped => true,
     }
 }
 
@@ -65,27 +49,16 @@ fn progress_ok(p: Progress, ram_len: usize) -> bool
 pub fn in_range(s: State) -> bool
     ensures { result ≡ in_range s }
 {
-    let ram_len = s.config.ram_len;
-    if !protocol::length_ok(ram_len) {
-        return false;
-    }
-    if !frame_ok(s.incoming.header, s.incoming.got) {
-        return false;
-    }
-    progress_ok(s.progress, ram_len)
+    protocol::length_ok(s.config.ram_len)
+        && frame_ok(s.incoming.header, s.incoming.got)
+        && progress_ok(s.progress, s.config.ram_len)
 }
 
 // Whether the session goes on: the head has neither started nor stopped.
 pub fn is_live(p: Progress) -> bool
     ensures { result ≡ live p.phase }
 {
-    let phase = p.phase;
-    match phase {
-        Phase::Waiting => true,
-        Phase::Loading => true,
-        Phase::Started => false,
-        Phase::Stopped => false,
-    }
+    matches!(p.phase, Phase::Waiting | Phase::Loading)
 }
 
 // No frame.
@@ -138,38 +111,27 @@ pub fn ended(phase: Phase, ram_len: usize) -> State
 pub fn allowed(c: Config, digest: [u8; 32]) -> bool
     ensures { result ≡ allowed c digest }
 {
-    if !c.verify {
-        return true;
-    }
-    let digests = c.digests;
-    record::one_of(digests, digest)
+    !c.verify || record::one_of(c.digests, digest)
 }
 
 // Whether a program of this size is in a slot and has room in RAM: both are given by their lengths.
 pub fn fits(size: usize, slot: usize, ram: usize) -> bool
     ensures { result ≡ fits size slot ram }
 {
-    if size == 0 {
-        return false;
-    }
-    if slot < size {
-        return false;
-    }
-    size <= ram
+    1 <= size && size <= slot && size <= ram
 }
 
 // What a session goes by.
 pub fn config_of(r: Record, udi: [u8; 8], built_in: [u8; 32], ram_len: usize) -> Config
     ensures { result ≡ config_of (record_of r) udi built_in ram_len }
 {
-    let reset_type = r.reset_type;
     let measured_id = r.measured_id;
     Config {
         ram_len,
         measured_id,
         udi,
         digests: record::digests_of(r, built_in),
-        verify: record::verifies(reset_type),
+        verify: record::verifies(r.reset_type),
         chained: r.reset_seed,
     }
 }
