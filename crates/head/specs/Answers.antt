@@ -64,6 +64,11 @@ report_of Whole = whole
 report_of (Stopped s) = stopped (stop_number s)
 report_of (Started x) = started x.address x.size
 
+-- what a call reports, refused or not
+abbrev pub reported : Tried Answer Refusal → Report
+reported (Ok a) = report_of a
+reported (Err r) = refused (refusal_number r)
+
 -- the CDI and the program's digest at a start; otherwise zeros
 abbrev pub cdi_in : Answer → List ℕ
 cdi_in Continue = zeros 32

@@ -1,4 +1,5 @@
 -- What is proved about the calls, besides the promises of `begin`, `gather` and `act`. The proof is `head_theorems` in proofs/Proved.antt.
+use Rattle.std.specs.Prelude.{Result as Tried, Ok, Err}
 use Rattle.std.specs.Prelude.{ℕ, ◌+◌, ◌≤◌, ◌≡◌, ◌↔◌, ◌⊎◌, true, false, cond, List, [], ◌∷◌, eqb, length, take, drop}
 use Rattle.std.proofs.Math.Seq.{paste}
 use Rattle.framing.specs.Header.{good, header_at}
@@ -9,14 +10,32 @@ use Rattle.protocol.specs.Replies.{header_in}
 use Rattle.protocol.specs.Theorems.{StatusTold}
 use Rattle.endian.specs.Lists.{zeros}
 use Rattle.head.specs.State.{is_whole, in_range, live, idle, ended}
-use Rattle.head.specs.Answers.{refused, continues, whole, stopped, started, report_of, Gathering, Result, Outcome, replied, unreplied}
+use Rattle.head.specs.Answers.{refused, continues, whole, stopped, started, reported, cdi_in, digest_in, Gathering, Result, Outcome, replied, unreplied}
 use Rattle.head.specs.Start.{unstarted, ending}
 use Rattle.head.specs.Begin.{Flash, begin_refusal, beginning}
 use Rattle.head.specs.Gather.{gather_refusal, with_incoming, gathered}
 use Rattle.head.specs.Act.{gives_load, request_of, takes, act_refusal, refusing, acted}
 use Rattle.head.specs.declared.Phase.TheVariants as phase
 use Rattle.head.specs.declared.State.{State}
+use Rattle.head.specs.declared.Refusal.{Refusal}
 use Rattle.head.specs.declared.Answer.{Answer}
+use Rattle.head.specs.declared.Answer.TheVariants.{Continue, Whole, Stopped, Started}
+
+-- an answer without the CDI and the digest that a start gives
+abbrev pub bare : Answer → Answer
+bare Continue = Continue
+bare Whole = Whole
+bare (Stopped s) = Stopped s
+bare (Started x) = Started (record { address = x.address; size = x.size; cdi = []; digest = [] })
+
+abbrev pub bare_of : Tried Answer Refusal → Tried Answer Refusal
+bare_of (Ok a) = Ok (bare a)
+bare_of (Err r) = Err r
+
+-- what a call gives with it, nothing where it is refused
+abbrev pub given_by : (Answer → List ℕ) → Tried Answer Refusal → List ℕ
+given_by f (Ok a) = f a
+given_by f (Err r) = []
 
 -- after the gathering g, bytes gathered one after the other
 abbrev pub gathered_on : List ℕ → Gathering → Gathering
@@ -151,8 +170,9 @@ module _ (s : State) (room ram uds : List ℕ) where
         → (other : List ℕ) → length other ≡ length uds → acted s room ram other ≡ changed (with_cdi (acted s room ram other).cdi) after_act
 
 pub record HeadTheorems : Type 0 where
-  -- the reported number and values settle the answer
-  pub answers : (x y : Answer) → report_of x ≡ report_of y → x ≡ y
+  -- the reported number and values settle the answer, but for the CDI and the digest of a start; with these two, all of it
+  pub answers : (x y : Tried Answer Refusal) → reported x ≡ reported y
+      → (bare_of x ≡ bare_of y) × (given_by cdi_in x ≡ given_by cdi_in y → given_by digest_in x ≡ given_by digest_in y → x ≡ y)
   pub begin : (bytes udi : List ℕ) (f : Flash) (ram uds : List ℕ) → BeginProperties bytes udi f ram uds
   pub gather : (s : State) (b : ℕ) → GatherProperties s b
   pub act : (s : State) (room ram uds : List ℕ) → ActProperties s room ram uds

@@ -40,7 +40,7 @@ fn open(s: State, b: u8) -> Step
     ensures { gathering_in result ≡ after_step (opened (header_at b) s.incoming b) s }
 {
     match framing::read_header(b) {
-        Header::Good { .. } => go_on(
+        Some(_) => go_on(
             s,
             Incoming {
                 header: b,
@@ -48,25 +48,25 @@ fn open(s: State, b: u8) -> Step
                 ..s.incoming
             },
         ),
-        Header::Bad => stop(s),
+        None => stop(s),
     }
 }
 
 // A byte of the body that a header announced: it is kept where the frame is for the firmware.
-fn in_body(s: State, endpoint: u8, len: u8, b: u8) -> Step
+fn in_body(s: State, h: Header, b: u8) -> Step
     requires { (1 ≤ s.incoming.got) × (s.incoming.got ≤ 128) }
-    ensures { gathering_in result ≡ after_step (taken (in_body s.incoming endpoint len b)) s }
+    ensures { gathering_in result ≡ after_step (taken (in_body s.incoming h.endpoint h.len b)) s }
 {
     let i = s.incoming;
     let mut next = Incoming {
         got: i.got + 1,
         ..i
     };
-    if endpoint == 2 {
+    if h.endpoint == 2 {
         next.body[(i.got - 1) as usize] = b;
         return go_on(s, next);
     }
-    if i.got == len {
+    if i.got == h.len {
         return go_on(s, states::idle());
     }
     go_on(s, next)
@@ -78,17 +78,12 @@ fn take(s: State, b: u8) -> Step
     requires incoming_value_2 { is_whole s.incoming ≡ false }
     ensures { gathering_in result ≡ after_step (byte_step s.incoming b) s }
 {
-    let i = s.incoming;
-    if i.got == 0 {
+    if s.incoming.got == 0 {
         return open(s, b);
     }
-    match framing::read_header(i.header) {
-        Header::Good {
-            id: _,
-            endpoint,
-            len,
-        } => in_body(s, endpoint, len, b),
-        Header::Bad => stop(s),
+    match framing::read_header(s.incoming.header) {
+        Some(h) => in_body(s, h, b),
+        None => stop(s),
     }
 }
 

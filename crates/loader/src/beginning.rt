@@ -2,51 +2,47 @@
 ghost use Rattle.std.specs.Prelude.{◌≡◌, List, ℕ, ◌≤◌, length};
 ghost use Rattle.protocol.specs.Commands.{longest};
 ghost use Rattle.record.specs.Record.{record_of};
-ghost use Rattle.head.specs.Answers.{result_of};
-ghost use Rattle.head.specs.Begin.{flash_of, waiting_with, by_type};
+ghost use Rattle.head.specs.Answers.{result_in};
+ghost use Rattle.head.specs.Begin.{waiting_with, by_type};
+ghost use Rattle.loader.specs.Steps.{lent};
 
-use head::{Answer, Begun, Config, Phase, State, Stop};
+use super::flash::Flash;
+use head::{Answer, Config, Phase, State, Step, Stop};
 use record::{Place, Record};
 
 // A session that waits for a load.
-fn wait(config: Config) -> Begun
-    ensures { (ram uds : List ℕ) → result_of result ram uds ≡ waiting_with config ram uds }
+fn wait(config: Config) -> Step
+    ensures { (ram uds : List ℕ) → result_in result ram uds ≡ waiting_with config ram uds }
 {
-    let incoming = head::idle();
-    let progress = head::of_size(Phase::Waiting, 0);
-    Begun {
+    Step {
         answer: Answer::Continue,
-        cdi: [0; 32],
-        digest: [0; 32],
         state: State {
-            incoming,
+            incoming: head::idle(),
             config,
-            progress,
+            progress: head::of_size(Phase::Waiting, 0),
         },
     }
 }
 
 // What the record's type leads to.
-pub fn by_type<'a>(
+pub fn by_type(
     r: Record,
     udi: [u8; 8],
-    slot0: &'a [u8],
-    size0: usize,
-    slot1: &'a [u8],
-    size1: usize,
-    built_in: [u8; 32],
+    flash: Flash<'_>,
     ram: &mut [u8],
     uds: &mut [u32],
-) -> Begun
+) -> Step
     requires { (length ram.old ≤ longest) × (length uds.old ≡ 8) }
-    ensures { result_of result ram.new uds.new ≡ by_type (record_of r) udi (flash_of slot0.now size0 slot1.now size1 built_in) ram.old uds.old }
+    ensures { result_in result ram.new uds.new ≡ by_type (record_of r) udi (lent flash) ram.old uds.old }
 {
+    let Some(reset_type) = r.reset_type else {
+        return super::starting::end(Stop::UnknownType, ram.len());
+    };
+    let built_in = flash.built_in;
     let c = head::config_of(r, udi, built_in, ram.len());
-    let reset_type = r.reset_type;
     match record::source(reset_type) {
-        Place::Slot0 => super::flash::boot(c, slot0, slot1, false, size0, ram, uds),
-        Place::Slot1 => super::flash::boot(c, slot0, slot1, true, size1, ram, uds),
+        Place::Slot0 => super::flash::boot(c, flash.slot0, ram, uds),
+        Place::Slot1 => super::flash::boot(c, flash.slot1, ram, uds),
         Place::Client => wait(c),
-        Place::Unknown => super::starting::end(Answer::Stopped(Stop::UnknownType), c.ram_len),
     }
 }

@@ -9,15 +9,6 @@ ghost use Rattle.head.specs.Act.{stored_in};
 
 use protocol::{Frame, Reply};
 
-// Copies src into dst from a place on.
-pub fn copy_to(dst: &mut [u8], at: usize, src: &[u8])
-    requires { at + length src.now ≤ length dst.old }
-    ensures { dst.new ≡ paste dst.old at src.now (length src.now) }
-{
-    let end = at + src.len();
-    dst[at..end].copy_from_slice(src);
-}
-
 // Puts a reply at the front of the room.
 pub fn put(room: &mut [u8], r: Reply)
     requires in_bounds { 129 ≤ length room.old }
@@ -27,7 +18,7 @@ pub fn put(room: &mut [u8], r: Reply)
     let n = r.len;
     let body = r.body;
     room[0] = r.header;
-    copy_to(room, 1, &body[..n]);
+    endian::paste(room, 1, &body[..n]);
 }
 
 // Puts the program bytes that a block carries in RAM.
@@ -38,18 +29,7 @@ pub fn store(ram: &mut [u8], f: Frame, size: u32, block: u32)
     let n = protocol::count_in(size, block);
     let at = protocol::place_of(block);
     let body = f.body;
-    copy_to(ram, at, &body[1..n + 1]);
-}
-
-// Measures a program: BLAKE2s-256 of its bytes.
-pub fn measure(program: &[u8]) -> [u8; 32]
-    requires { length program.now ≤ longest }
-    ensures { result ≡ blake2s [] program.now 32 }
-{
-    let mut digest = [0u8; 32];
-    let key = [0u8; 1];
-    let _ = blake2s::hash(&key[..0], program, &mut digest);
-    digest
+    endian::paste(ram, at, &body[1..n + 1]);
 }
 
 // The device secret as bytes.
