@@ -1,14 +1,13 @@
 -- The command frames of a program: change request 1, "The server's half". A frame is the list of its bytes, header first, as in `protocol`; that
 -- these are what document 01 reads as a load and its blocks is a theorem of `session`.
-use Rattle.std.specs.Prelude.{ℕ, ◌-◌, Bool, not, cond, List, [], ◌∷◌, ◌++◌, eqb, ltb, length, take, drop}
+use Rattle.std.specs.Prelude.{ℕ, ◌-◌, Bool, true, false, not, cond, Option, None, Some, Result, List, [], ◌∷◌, ◌++◌, eqb, ltb, length, take, drop}
 use Rattle.framing.specs.Header.{header_byte}
 use Rattle.endian.specs.Endian.{byte_of}
 use Rattle.protocol.specs.Commands.{length_ok, firmware, blocks_for, place_of}
 use Rattle.protocol.specs.Replies.{written, put_in}
-use Rattle.endian.specs.Lists.{padded}
+use Rattle.endian.specs.Lists.{padded, zeros}
 use Rattle.client.specs.Answers.{number_of}
-use Rattle.client.specs.declared.Answer.{Answer}
-use Rattle.client.specs.declared.Secret.{Secret}
+use Rattle.client.specs.declared.Refusal.{Refusal}
 
 -- ---- which frames there are
 
@@ -21,8 +20,18 @@ refusal n id k =
 
 -- ---- a frame: unfilled bytes are zero
 
+-- the user secret (USS) of a load, or none: it is not sent unless it is used
+pub record Secret : Type 0 where
+  pub used : Bool
+  pub uss : List ℕ
+
 abbrev pub secret_of : Bool → List ℕ → Secret
 secret_of used uss = record { used = used; uss = uss }
+
+-- as a call is given it
+abbrev pub secret_in : Option (List ℕ) → Secret
+secret_in None = secret_of false (zeros 32)
+secret_in (Some uss) = secret_of true uss
 
 -- a command has no status: bit 2 is zero
 unfoldable pub command_header : ℕ → ℕ
@@ -59,8 +68,8 @@ pub record Making : Type 0 where
 abbrev pub making_as : ℕ → List ℕ → Making
 making_as number room = record { number = number; room = room }
 
-abbrev pub making_of : Answer → List ℕ → Making
-making_of a room = making_as (number_of a) room
+abbrev pub making_of : Result (Unit {0}) Refusal → List ℕ → Making
+making_of r room = making_as (number_of r) room
 
 -- a room under 129 bytes comes before the others
 abbrev pub make_refusal : ℕ → ℕ → ℕ → ℕ → ℕ

@@ -1,5 +1,5 @@
 -- What is proved about the calls besides their promises. The proof is `client` in proofs/Proved.antt.
-use Rattle.std.specs.Prelude.{ℕ, ◌^◌, ◌-◌, ◌<◌, ◌≤◌, ◌≡◌, ◌↔◌, Bool, true, false, cond, List, [], ◌∷◌, ◌++◌, length, replicate}
+use Rattle.std.specs.Prelude.{ℕ, ◌^◌, ◌-◌, ◌<◌, ◌≤◌, ◌≡◌, ◌↔◌, Bool, true, false, cond, Option, None, Some, Result, List, [], ◌∷◌, ◌++◌, length, replicate}
 use Rattle.framing.specs.Header.{good, header_at, header_byte}
 use Rattle.framing.specs.Answers.{status_number}
 use Rattle.framing.specs.Theorems.{bit}
@@ -8,13 +8,11 @@ use Rattle.protocol.specs.Commands.{firmware, blocks_for, is_last}
 use Rattle.protocol.specs.Replies.{written, sent, header_in, status_in, load_reply, block_reply, digest_reply}
 use Rattle.endian.specs.Lists.{padded, zeros}
 use Rattle.client.specs.Answers.{number_of, difference_number}
-use Rattle.client.specs.Frames.{refusal, secret_of, command_header, command_frame}
-use Rattle.client.specs.Replies.{expected_reply, taking_as, refused_with, taking, differing}
-use Rattle.client.specs.declared.Answer.{Answer}
+use Rattle.client.specs.Frames.{refusal, Secret, secret_of, command_header, command_frame}
+use Rattle.client.specs.Replies.{Expected, expected_reply, taking_as, refused_with, taking, differing}
+use Rattle.client.specs.declared.Refusal.{Refusal}
 use Rattle.client.specs.declared.Difference.{Difference}
 use Rattle.client.specs.declared.Difference.TheVariants as difference
-use Rattle.client.specs.declared.Secret.{Secret}
-use Rattle.client.specs.declared.replies.Expected.{Expected}
 
 -- r is the expected reply, written from its parts: a header with the status, the code, the status, a digest if it has one, and zeros
 pub record Expects (x : Expected) (id : ℕ) (r : List ℕ) : Type 0 where
@@ -25,7 +23,7 @@ pub record Expects (x : Expected) (id : ℕ) (r : List ℕ) : Type 0 where
 
 pub record Client : Type 0 where
   -- the number settles the answer
-  pub answers : (x y : Answer) → number_of x ≡ number_of y → x ≡ y
+  pub answers : (x y : Result (Unit {0}) Refusal) → number_of x ≡ number_of y → x ≡ y
   -- which programs, IDs and numbers are not refused
   pub accepts : (n id k : ℕ) → (refusal n id k ≡ 0) ↔ ((1 ≤ n) × (n ≤ 131072) × (id ≤ 3) × (k ≤ blocks_for n))
   -- a frame has 129 bytes; its header reads as the frame ID, endpoint 2 and a body of 128
@@ -50,17 +48,17 @@ pub record Client : Type 0 where
   pub to_last : (n id k : ℕ) (digest : List ℕ) → refusal n id k ≡ 0 → 1 ≤ k → is_last n (k - 1) ≡ true → length digest ≡ 32
       → taking n id k (sent (digest_reply (command_header id) digest)) ≡ taking_as 0 0 digest
   -- the number settles the difference; a reply is taken exactly when it differs in nothing
-  pub differences : (x y : Difference) → difference_number x ≡ difference_number y → x ≡ y
-  pub differs : (n id k : ℕ) (r : List ℕ) → refusal n id k ≡ 0 → (differing n id k r ≡ difference.Nothing) ↔ ((taking n id k r).number ≡ 0)
+  pub differences : (x y : Option Difference) → difference_number x ≡ difference_number y → x ≡ y
+  pub differs : (n id k : ℕ) (r : List ℕ) → refusal n id k ≡ 0 → (differing n id k r ≡ None) ↔ ((taking n id k r).number ≡ 0)
   -- which difference is which, and their order, in replies to the load of a program of one byte with ID 1: one without a byte, and one that
   -- differs in everything, made right place by place; status 1 in header and byte, and in one of them alone
-  pub compared : (differing 1 1 0 [] ≡ difference.Header)
-      × (differing 1 1 0 (0x51 ∷ 0x06 ∷ 2 ∷ 1 ∷ []) ≡ difference.Header)
-      × (differing 1 1 0 (0x31 ∷ 0x06 ∷ 2 ∷ 1 ∷ []) ≡ difference.Length)
-      × (differing 1 1 0 (0x31 ∷ 0x06 ∷ 2 ∷ 1 ∷ 0 ∷ []) ≡ difference.Code)
-      × (differing 1 1 0 (0x31 ∷ 0x04 ∷ 2 ∷ 1 ∷ 0 ∷ []) ≡ difference.Status)
-      × (differing 1 1 0 (0x31 ∷ 0x04 ∷ 0 ∷ 1 ∷ 0 ∷ []) ≡ difference.Filler)
-      × (differing 1 1 0 (0x31 ∷ 0x04 ∷ 0 ∷ 0 ∷ 0 ∷ []) ≡ difference.Nothing)
-      × (differing 1 1 0 (0x35 ∷ 0x04 ∷ 1 ∷ 0 ∷ 0 ∷ []) ≡ difference.Nothing)
-      × (differing 1 1 0 (0x35 ∷ 0x04 ∷ 0 ∷ 0 ∷ 0 ∷ []) ≡ difference.Status)
-      × (differing 1 1 0 (0x31 ∷ 0x04 ∷ 1 ∷ 0 ∷ 0 ∷ []) ≡ difference.Status)
+  pub compared : (differing 1 1 0 [] ≡ Some difference.Header)
+      × (differing 1 1 0 (0x51 ∷ 0x06 ∷ 2 ∷ 1 ∷ []) ≡ Some difference.Header)
+      × (differing 1 1 0 (0x31 ∷ 0x06 ∷ 2 ∷ 1 ∷ []) ≡ Some difference.Length)
+      × (differing 1 1 0 (0x31 ∷ 0x06 ∷ 2 ∷ 1 ∷ 0 ∷ []) ≡ Some difference.Code)
+      × (differing 1 1 0 (0x31 ∷ 0x04 ∷ 2 ∷ 1 ∷ 0 ∷ []) ≡ Some difference.Status)
+      × (differing 1 1 0 (0x31 ∷ 0x04 ∷ 0 ∷ 1 ∷ 0 ∷ []) ≡ Some difference.Filler)
+      × (differing 1 1 0 (0x31 ∷ 0x04 ∷ 0 ∷ 0 ∷ 0 ∷ []) ≡ None)
+      × (differing 1 1 0 (0x35 ∷ 0x04 ∷ 1 ∷ 0 ∷ 0 ∷ []) ≡ None)
+      × (differing 1 1 0 (0x35 ∷ 0x04 ∷ 0 ∷ 0 ∷ 0 ∷ []) ≡ Some difference.Status)
+      × (differing 1 1 0 (0x31 ∷ 0x04 ∷ 1 ∷ 0 ∷ 0 ∷ []) ≡ Some difference.Status)

@@ -2,33 +2,26 @@
 ghost use Rattle.std.specs.Prelude.{◌≡◌, ◌<◌, ◌≤◌, ◌∷◌, length};
 ghost use Rattle.protocol.specs.Commands.{longest, place_of, blocks_for};
 ghost use Rattle.protocol.specs.Replies.{put_in};
-ghost use Rattle.client.specs.Frames.{command_header, load_body, block_body, command_body};
+ghost use Rattle.client.specs.Frames.{secret_in, command_header, load_body, block_body, command_body};
 
-use super::Secret;
+use framing::Status;
 
 // The header of a command.
 fn header(id: u8) -> u8
     ensures { result ≡ command_header id }
 {
-    match framing::write_header(id, 2, 128, framing::Status::Good) {
-        framing::Written::Byte(b) => b,
-        framing::Written::Refused => 0,
-    }
+    framing::write_header(id, 2, 128, Status::Good).unwrap_or(0)
 }
 
 // The body of the load of a program of this size.
-fn load_body(size: u32, secret: Secret) -> [u8; 128]
-    ensures { result ≡ load_body size secret }
+fn load_body(size: u32, secret: Option<[u8; 32]>) -> [u8; 128]
+    ensures { result ≡ load_body size (secret_in secret) }
 {
     let mut load = [0u8; 128];
     load[0] = 0x03;
-    load[1] = endian::byte(size, 0);
-    load[2] = endian::byte(size, 1);
-    load[3] = endian::byte(size, 2);
-    load[4] = endian::byte(size, 3);
-    if secret.used {
+    load[1..5].copy_from_slice(&size.to_le_bytes());
+    if let Some(uss) = secret {
         load[5] = 1;
-        let uss = secret.uss;
         load[6..38].copy_from_slice(&uss);
     }
     load
@@ -49,10 +42,10 @@ fn block_body(program: &[u8], block: u32) -> [u8; 128]
 }
 
 // The body of command frame k.
-pub fn body(program: &[u8], secret: Secret, k: u32) -> [u8; 128]
+pub fn body(program: &[u8], secret: Option<[u8; 32]>, k: u32) -> [u8; 128]
     requires in_bounds { (1 ≤ length program.now) × (length program.now ≤ longest) }
     requires k_bound { k ≤ blocks_for (length program.now) }
-    ensures { result ≡ command_body program.now secret k }
+    ensures { result ≡ command_body program.now (secret_in secret) k }
 {
     if k == 0 {
         return load_body(program.len() as u32, secret);

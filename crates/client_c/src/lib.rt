@@ -1,4 +1,4 @@
-// The client for C: include/mastfrap.h. Each contract is that of the function that is called.
+// The client for C: include/mastfrap.h. Each contract says what that of the function in `client` does, in numbers and lent bytes.
 #![tactic(auto)]
 
 ghost use Rattle.std.specs.Prelude.{◌≡◌, not, eqb};
@@ -18,7 +18,11 @@ pub extern "C" fn mastfrap_make_frame(
 ) -> u32
     ensures { making_as result room.new ≡ making program.now id (secret_of (not (eqb used 0)) uss.now) k room.old }
 {
-    client::mastfrap_make_frame(program, id, used, uss, k, room)
+    let secret = if used == 0 { None } else { Some(*uss) };
+    match client::make_frame(program, id, secret, k, room) {
+        Ok(()) => 0,
+        Err(why) => why.into(),
+    }
 }
 
 // Status and digest are written where the reply is taken; the digest is zeros but for the last reply.
@@ -33,12 +37,22 @@ pub extern "C" fn mastfrap_read_reply(
 ) -> u32
     ensures { taking_as result status.new digest.new ≡ taking_into len id k reply.now status.old digest.old }
 {
-    client::mastfrap_read_reply(len, id, k, reply, status, digest)
+    match client::read_reply(len, id, k, reply) {
+        Ok(taken) => {
+            *status = taken.status.into();
+            *digest = taken.digest.unwrap_or([0; 32]);
+            0
+        }
+        Err(why) => why.into(),
+    }
 }
 
 #[unsafe(no_mangle)]
 pub extern "C" fn mastfrap_difference(len: usize, id: u8, k: u32, reply: &[u8]) -> u32
     ensures { result ≡ difference_number (differing len id k reply.now) }
 {
-    client::mastfrap_difference(len, id, k, reply)
+    match client::reply_difference(len, id, k, reply) {
+        None => 0,
+        Some(difference) => difference.into(),
+    }
 }

@@ -23,10 +23,9 @@ use Rattle.head.specs.Answers.{started, Gathering, Outcome}
 use Rattle.head.specs.Gather.{gathered}
 use Rattle.head.specs.Act.{acted}
 use Rattle.head.proofs.Ranges.{never}
-use Rattle.client.specs.Frames.{refusal, command_header}
+use Rattle.client.specs.Frames.{refusal, Secret, command_header}
 use Rattle.client.specs.Replies.{taking_as, taking}
 use Rattle.client.proofs.Proved.{client}
-use Rattle.client.specs.declared.Secret.{Secret}
 use Rattle.upload.proofs.Proved.{uploads}
 use Rattle.upload.proofs.Jobs.{job_is}
 use Rattle.session.specs.Reading.{body_of, size_of, program_of, digest_of, chained, measured_id}

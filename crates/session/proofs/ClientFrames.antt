@@ -20,9 +20,8 @@ use Rattle.endian.specs.Lists.{padded, All, Bytes}
 use Rattle.protocol.specs.Theorems.{load_with, IsGood}
 use Rattle.protocol.proofs.Proved.{protocol}
 use Rattle.protocol.specs.declared.Load.{Load}
-use Rattle.client.specs.Frames.{command_header, size_bytes, load_body, block_body}
+use Rattle.client.specs.Frames.{Secret, command_header, size_bytes, load_body, block_body}
 use Rattle.client.proofs.Proved.{client}
-use Rattle.client.specs.declared.Secret.{Secret}
 use Rattle.endian.proofs.Words.{rebuilt}
 use Rattle.session.specs.Reading.{Good, own, GoodLoad, BlockFrame, carried, program_of}
 use Rattle.session.specs.Reading as shape

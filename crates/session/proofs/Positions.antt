@@ -8,12 +8,12 @@ use lib.ListN.{length, get_or, length-append, get_or-append}
 use lib.Dec.{eqb}
 use lib.Seq.{get_or_at}
 use borrow.Author.Tests.{eqb-true, eqb-false}
-use Rattle.client.specs.declared.Secret.{Secret}
 use Rattle.endian.specs.Lists.{All}
 use Rattle.session.specs.Reading.{Good, for_firmware, own}
 use Rattle.session.specs.Client.{frame, frames_to, Made}
 use Rattle.session.proofs.Frames.{all_append, reads_on, no_frames}
 use Rattle.session.proofs.Gathering.{length_snoc}
+use Rattle.client.specs.Frames.{Secret}
 use Rattle.session.proofs.ClientFrames.{is_own, is_good_when}
 
 abbrev Own : List ℕ → Type 0

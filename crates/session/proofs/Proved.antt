@@ -11,9 +11,8 @@ use Rattle.rfc7693.specs.Rfc7693.{blake2s}
 use Rattle.protocol.specs.Commands.{load_in, uses_uss}
 use Rattle.protocol.specs.Theorems.{load_with}
 use Rattle.protocol.specs.declared.Load.{Load}
-use Rattle.client.specs.Frames.{secret_of}
+use Rattle.client.specs.Frames.{Secret, secret_of}
 use Rattle.client.proofs.Proved as making
-use Rattle.client.specs.declared.Secret.{Secret}
 use Rattle.head.specs.State.{is_whole, live}
 use Rattle.head.specs.Answers.{refused, whole, started, Gathering, Outcome}
 use Rattle.head.specs.Begin.{waiting}

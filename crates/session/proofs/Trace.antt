@@ -12,8 +12,8 @@ use Rattle.endian.proofs.Cases.{impossible}
 use Rattle.endian.specs.Lists.{zeros}
 use Rattle.protocol.specs.Commands.{blocks_for}
 use Rattle.head.specs.Answers.{continues, started, Gathering, Outcome}
+use Rattle.client.specs.Frames.{Secret}
 use Rattle.client.specs.Replies.{taking_as}
-use Rattle.client.specs.declared.Secret.{Secret}
 use Rattle.upload.specs.Upload.{bytes_of}
 use Rattle.upload.specs.Theorems.{Loads, last, more}
 use Rattle.upload.specs.declared.Job.{Job}

@@ -10,12 +10,10 @@ use Rattle.protocol.specs.Commands.{firmware, load_in, carried_by, blocks_for, p
 use Rattle.endian.specs.Lists.{padded, Bytes, Words, zeros}
 use Rattle.protocol.specs.Theorems.{load_with}
 use Rattle.head.specs.Answers.{started, Outcome}
-use Rattle.client.specs.Frames.{refusal, command_frame}
+use Rattle.client.specs.Frames.{refusal, Secret, command_frame}
 use Rattle.client.specs.Replies.{taking_as, taking}
-use Rattle.client.specs.declared.Secret.{Secret}
-use Rattle.upload.specs.Upload.{job_of, opening, bytes_of, runs}
+use Rattle.upload.specs.Upload.{job_of, Loaded, opening, bytes_of, runs}
 use Rattle.upload.specs.declared.Job.{Job}
-use Rattle.upload.specs.declared.Next.TheVariants.{Loaded}
 use Rattle.session.specs.Reading.{LoadFrame, GoodLoad, BlockFrame, Allowed, chained, measured_id}
 use Rattle.session.specs.Session.{Reset, AsksClient, Admitted, Loan, Entry, gathers, acts, Among, gathered_bytes, replies_of, Session, ram_len, all_of, accepted_of, has_ended, last_is, is_acting}
 use Rattle.session.specs.Boot.{Start}

@@ -7,13 +7,13 @@ use Rattle.protocol.specs.Commands.{place_of}
 use Rattle.protocol.specs.Replies.{header_in}
 use Rattle.client.specs.Frames.{refusal}
 use Rattle.client.specs.Replies.{taking_as, taking}
-use Rattle.upload.specs.Upload.{job_of, is_over, turn_of, sent_frame, opening, after_reply, turned, bytes_of, runs, most_events}
+use Rattle.upload.specs.Upload.{job_of, is_over, Loaded, Failed, turn_of, sent_frame, opening, after_reply, turned, bytes_of, runs, most_events}
 use Rattle.upload.specs.declared.Job.{Job}
 use Rattle.upload.specs.declared.Exchange.{Exchange}
 use Rattle.upload.specs.declared.Event.{Event}
 use Rattle.upload.specs.declared.Event.TheVariants.{Byte, Silence, Closed}
 use Rattle.upload.specs.declared.Failure.TheVariants.{NoAnswer, LineClosed, UnexpectedReply, Refused, OtherDigest}
-use Rattle.upload.specs.declared.Next.TheVariants.{Send, Loaded, Failed}
+use Rattle.upload.specs.declared.Next.TheVariants.{Send}
 
 -- these bytes in this order, with so many ticks of silence before or between them
 pub data Heard : List ℕ → ℕ → List Event → Type 0 where

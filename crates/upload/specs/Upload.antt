@@ -1,6 +1,6 @@
 -- A load as the laptop goes through it, event by event: each frame is sent, and its reply read to its end, before the next one is. What a
 -- frame is and which reply is taken is change request 1, in `client`.
-use Rattle.std.specs.Prelude.{ℕ, ◌+◌, ◌-◌, ◌*◌, Bool, true, false, not, cond, List, [], ◌∷◌, eqb, leb, ltb, length, set, take}
+use Rattle.std.specs.Prelude.{ℕ, ◌+◌, ◌-◌, ◌*◌, Bool, true, false, not, cond, Result, Ok, Err, List, [], ◌∷◌, eqb, leb, ltb, length, set, take}
 use Rattle.endian.specs.Lists.{zeros, same}
 use Rattle.blake2s.specs.Hash.{hash_output}
 use Rattle.framing.specs.Header.{fields_at, reply_body_len}
@@ -14,7 +14,7 @@ use Rattle.upload.specs.declared.Event.TheVariants.{Byte, Silence, Closed}
 use Rattle.upload.specs.declared.Failure.{Failure}
 use Rattle.upload.specs.declared.Failure.TheVariants.{ProgramLength, FrameId, SecretLength, Device, NoAnswer, LineClosed, UnexpectedReply, Refused, OtherDigest}
 use Rattle.upload.specs.declared.Next.{Next}
-use Rattle.upload.specs.declared.Next.TheVariants.{Send, Wait, Loaded, Failed}
+use Rattle.upload.specs.declared.Next.TheVariants.{Send, Wait, Over}
 use Rattle.upload.specs.declared.Turn.{Turn}
 
 -- the exit status of each failure; the script of `./load` gives 0 for a load and 1 where it could not be built
@@ -32,8 +32,14 @@ exit_number OtherDigest = 9
 abbrev pub is_over : Next → Bool
 is_over Send = false
 is_over Wait = false
-is_over Loaded = true
-is_over (Failed why) = true
+is_over (Over r) = true
+
+-- the two ends: the head has the program, or not
+abbrev pub Loaded : Next
+Loaded = Over (Ok tt)
+
+abbrev pub Failed : Failure → Next
+Failed why = Over (Err why)
 
 -- what is to be loaded: the digest is that of the hash in one call, from 32 zeros, which a call that is refused leaves
 unfoldable pub job_of : List ℕ → ℕ → ℕ → Job
@@ -78,8 +84,7 @@ came_of x = take x.got x.reply
 abbrev pub onward : Job → Exchange → Next → Turn
 onward job x Send = turn_of (sent_frame job (x.k + 1)) Send
 onward job x Wait = turn_of x Wait
-onward job x Loaded = turn_of x Loaded
-onward job x (Failed why) = turn_of x (Failed why)
+onward job x (Over r) = turn_of x (Over r)
 
 unfoldable pub replied : Job → Exchange → Turn
 replied job x = onward job x (after_reply job x.k (taking job.len job.id x.k (came_of x)))

@@ -7,8 +7,6 @@ mod steps;
 ghost use Rattle.std.specs.Prelude.{◌≡◌};
 ghost use Rattle.upload.specs.Upload.{is_over, exit_number};
 
-pub use steps::{advance, job_of, open, read};
-
 // What is to be loaded, and how.
 #[derive(Clone, Copy)]
 pub struct Job {
@@ -29,14 +27,14 @@ pub struct Exchange {
     pub k: u32,
     // How many bytes of the reply have come.
     pub got: usize,
-    // These, and zeros.
+    // These, and zeros. An array in place: a library has no heap.
     pub reply: [u8; 129],
     // How many more ticks of silence there may be.
     pub ticks: u32,
 }
 
 // What the line gives.
-#[derive(Clone, Copy)]
+#[derive(Clone, Copy, Debug, PartialEq, Eq)]
 pub enum Event {
     Byte(u8),
     // A tick without a byte.
@@ -46,7 +44,7 @@ pub enum Event {
 }
 
 // Why a program is not loaded.
-#[derive(Clone, Copy)]
+#[derive(Clone, Copy, Debug, PartialEq, Eq)]
 pub enum Failure {
     ProgramLength,
     // A frame ID over 3.
@@ -64,15 +62,14 @@ pub enum Failure {
 }
 
 // What is to be done.
-#[derive(Clone, Copy)]
+#[derive(Clone, Copy, Debug, PartialEq, Eq)]
 pub enum Next {
     // Send the frame of the exchange, and wait for what the line gives.
     Send,
     // Wait for what the line gives.
     Wait,
-    // The head has the program.
-    Loaded,
-    Failed(Failure),
+    // The load is over: the head has the program, or not.
+    Over(Result<(), Failure>),
 }
 
 #[derive(Clone, Copy)]
@@ -81,30 +78,29 @@ pub struct Turn {
     pub next: Next,
 }
 
-pub fn is_over(next: Next) -> bool
-    ensures { result ≡ is_over next }
-{
-    match next {
-        Next::Send => false,
-        Next::Wait => false,
-        Next::Loaded => true,
-        Next::Failed(_) => true,
+impl Next {
+    pub fn is_over(self) -> bool
+        ensures { result ≡ is_over self }
+    {
+        matches!(self, Next::Over(_))
     }
 }
 
 // The exit status that stands for a failure.
-pub fn exit_number(f: Failure) -> u32
-    ensures { result ≡ exit_number f }
-{
-    match f {
-        Failure::ProgramLength => 3,
-        Failure::FrameId => 2,
-        Failure::SecretLength => 3,
-        Failure::Device => 4,
-        Failure::NoAnswer => 5,
-        Failure::LineClosed => 6,
-        Failure::UnexpectedReply => 7,
-        Failure::Refused => 8,
-        Failure::OtherDigest => 9,
+impl From<Failure> for u32 {
+    ghost from_gives = { λ f n. n ≡ exit_number f };
+
+    fn from(f: Failure) -> u32 {
+        match f {
+            Failure::ProgramLength => 3,
+            Failure::FrameId => 2,
+            Failure::SecretLength => 3,
+            Failure::Device => 4,
+            Failure::NoAnswer => 5,
+            Failure::LineClosed => 6,
+            Failure::UnexpectedReply => 7,
+            Failure::Refused => 8,
+            Failure::OtherDigest => 9,
+        }
     }
 }

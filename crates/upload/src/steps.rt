@@ -1,159 +1,155 @@
 // What is done next.
-ghost use Rattle.std.specs.Prelude.{◌≡◌};
+ghost use Rattle.std.specs.Prelude.{◌≡◌, is_some, IfOk};
 ghost use Rattle.upload.specs.Upload.{job_of, sent_frame, opening, turn_of, over, came_of, after_last, replied, received, silent, turned};
-ghost use Rattle.client.specs.Replies.{taking_of, taking};
+ghost use Rattle.upload.specs.declared.Next.TheVariants.{Over};
+ghost use Rattle.client.specs.Replies.{expected_reply, has_digest, taking_of, taking};
 
 use super::{Event, Exchange, Failure, Job, Next, Turn};
-use client::{Answer, Taken};
+use client::{Refusal, Taken};
+use framing::Status;
 
-// What is to be loaded: this program, with its digest.
-pub fn job_of(program: &[u8], id: u8, wait: u32) -> Job
-    ensures { result ≡ job_of program.now id wait }
-{
-    let mut digest = [0u8; 32];
-    let _ = blake2s::hash(&[], program, &mut digest);
-    Job {
-        len: program.len(),
-        id,
-        digest,
-        wait,
+impl Job {
+    // What is to be loaded: this program, with its digest.
+    pub fn new(program: &[u8], id: u8, wait: u32) -> Job
+        ensures { result ≡ job_of program.now id wait }
+    {
+        Job {
+            len: program.len(),
+            id,
+            digest: blake2s::digest(program),
+            wait,
+        }
     }
-}
 
-// Frame k, of whose reply nothing has come.
-fn sent(job: Job, k: u32) -> Exchange
-    ensures { result ≡ sent_frame job k }
-{
-    Exchange {
-        k,
-        got: 0,
-        reply: [0; 129],
-        ticks: job.wait,
-    }
-}
-
-// The end, for this reason.
-fn failed(x: Exchange, why: Failure) -> Turn
-    ensures { result ≡ over x why }
-{
-    Turn {
-        exchange: x,
-        next: Next::Failed(why),
-    }
-}
-
-// The first turn: frame 0 is to be sent, if the client can make it.
-pub fn open(job: Job) -> Turn
-    ensures { result ≡ opening job }
-{
-    let exchange = sent(job, 0);
-    if !protocol::length_ok(job.len) {
-        return failed(exchange, Failure::ProgramLength);
-    }
-    if 3 < job.id {
-        return failed(exchange, Failure::FrameId);
-    }
-    Turn {
-        exchange,
-        next: Next::Send,
-    }
-}
-
-// The reply as the client reads it.
-pub fn read(job: Job, x: Exchange) -> Taken
-    ensures { taking_of result ≡ taking job.len job.id x.k (came_of x) }
-{
-    let bytes = x.reply;
-    client::read_reply(job.len, job.id, x.k, endian::first(&bytes, x.got))
-}
-
-// The reply is whole.
-fn reply(job: Job, x: Exchange) -> Turn
-    ensures { result ≡ replied job x }
-{
-    let t = read(job, x);
-    let answer = t.answer;
-    let Answer::Accepted = answer else {
-        return failed(x, Failure::UnexpectedReply);
-    };
-    if t.status != 0 {
-        return failed(x, Failure::Refused);
-    }
-    if protocol::place_of(x.k) < job.len {
-        return Turn {
-            exchange: sent(job, x.k + 1),
+    // The first turn: frame 0 is to be sent, if the client can make it.
+    pub fn open(self) -> Turn
+        ensures { result ≡ opening self }
+    {
+        let exchange = self.sent(0);
+        if !protocol::length_ok(self.len) {
+            return exchange.failed(Failure::ProgramLength);
+        }
+        if 3 < self.id {
+            return exchange.failed(Failure::FrameId);
+        }
+        Turn {
+            exchange,
             next: Next::Send,
+        }
+    }
+
+    // Every other turn.
+    pub fn advance(self, x: Exchange, event: Event) -> Turn
+        ensures { result ≡ turned self x event }
+    {
+        match event {
+            Event::Byte(b) => self.receive(x, b),
+            Event::Silence => x.wait(),
+            Event::Closed => x.failed(Failure::LineClosed),
+        }
+    }
+
+    // The reply as the client reads it.
+    pub fn read(self, x: Exchange) -> Result<Taken, Refusal>
+        ensures taking { taking_of result ≡ taking self.len self.id x.k (came_of x) }
+        ensures digest { IfOk result (λ t. is_some t.digest ≡ has_digest (expected_reply self.len x.k)) }
+    {
+        let reply = x.reply;
+        client::read_reply(self.len, self.id, x.k, endian::first(&reply, x.got))
+    }
+
+    // Frame k, of whose reply nothing has come.
+    fn sent(self, k: u32) -> Exchange
+        ensures { result ≡ sent_frame self k }
+    {
+        Exchange {
+            k,
+            got: 0,
+            reply: [0; 129],
+            ticks: self.wait,
+        }
+    }
+
+    // A byte of the reply has come. No reply is longer than 129 bytes.
+    fn receive(self, x: Exchange, b: u8) -> Turn
+        ensures { result ≡ received self x b }
+    {
+        if 128 < x.got {
+            return x.failed(Failure::UnexpectedReply);
+        }
+        let mut y = Exchange {
+            got: x.got + 1,
+            ..x
         };
+        y.reply[x.got] = b;
+        if x.got < framing::reply_body_len(y.reply[0]) as usize {
+            return Turn {
+                exchange: y,
+                next: Next::Wait,
+            };
+        }
+        self.reply(y)
     }
-    let theirs = t.digest;
-    check_digest(job, x, theirs)
+
+    // The reply is whole.
+    fn reply(self, x: Exchange) -> Turn
+        ensures { result ≡ replied self x }
+    {
+        let Ok(t) = self.read(x) else {
+            return x.failed(Failure::UnexpectedReply);
+        };
+        if let Status::Bad = t.status {
+            return x.failed(Failure::Refused);
+        }
+        if protocol::place_of(x.k) < self.len {
+            return Turn {
+                exchange: self.sent(x.k + 1),
+                next: Next::Send,
+            };
+        }
+        Turn {
+            exchange: x,
+            next: Next::Over(self.check(t.digest.unwrap_or([0; 32]))),
+        }
+    }
+
+    // The last reply has the digest that the head measured.
+    fn check(self, theirs: [u8; 32]) -> Result<(), Failure>
+        ensures { Over result ≡ after_last self theirs }
+    {
+        let ours = self.digest;
+        if endian::equal(&theirs, &ours) {
+            Ok(())
+        } else {
+            Err(Failure::OtherDigest)
+        }
+    }
 }
 
-// The last reply has the digest that the head measured.
-fn check_digest(job: Job, x: Exchange, theirs: [u8; 32]) -> Turn
-    ensures { result ≡ turn_of x (after_last job theirs) }
-{
-    let ours = job.digest;
-    if !endian::equal(&theirs, &ours) {
-        return failed(x, Failure::OtherDigest);
+impl Exchange {
+    // The end, for this reason.
+    fn failed(self, why: Failure) -> Turn
+        ensures { result ≡ over self why }
+    {
+        Turn {
+            exchange: self,
+            next: Next::Over(Err(why)),
+        }
     }
-    Turn {
-        exchange: x,
-        next: Next::Loaded,
-    }
-}
 
-// A byte of the reply has come. No reply is longer than 129 bytes.
-fn receive(job: Job, x: Exchange, b: u8) -> Turn
-    ensures { result ≡ received job x b }
-{
-    let at = x.got;
-    if 128 < at {
-        return failed(x, Failure::UnexpectedReply);
-    }
-    let mut bytes = x.reply;
-    bytes[at] = b;
-    let y = Exchange {
-        k: x.k,
-        got: at + 1,
-        reply: bytes,
-        ticks: x.ticks,
-    };
-    if at < framing::reply_body_len(bytes[0]) as usize {
-        return Turn {
-            exchange: y,
+    // A tick has passed without a byte.
+    fn wait(self) -> Turn
+        ensures { result ≡ silent self }
+    {
+        if self.ticks <= 1 {
+            return self.failed(Failure::NoAnswer);
+        }
+        Turn {
+            exchange: Exchange {
+                ticks: self.ticks - 1,
+                ..self
+            },
             next: Next::Wait,
-        };
-    }
-    reply(job, y)
-}
-
-// A tick has passed without a byte.
-fn wait(x: Exchange) -> Turn
-    ensures { result ≡ silent x }
-{
-    if x.ticks <= 1 {
-        return failed(x, Failure::NoAnswer);
-    }
-    let reply = x.reply;
-    Turn {
-        exchange: Exchange {
-            k: x.k,
-            got: x.got,
-            reply,
-            ticks: x.ticks - 1,
-        },
-        next: Next::Wait,
-    }
-}
-
-// Every other turn.
-pub fn advance(job: Job, x: Exchange, event: Event) -> Turn
-    ensures { result ≡ turned job x event }
-{
-    match event {
-        Event::Byte(b) => receive(job, x, b),
-        Event::Silence => wait(x),
-        Event::Closed => failed(x, Failure::LineClosed),
+        }
     }
 }
