@@ -7,9 +7,9 @@ use Rattle.text.specs.declared.Text.{Text}
 use Rattle.text.proofs.Texts.{parts}
 
 -- one digit
-pub one_digit : (t : Text) (n k : ℕ) → n < 10 → 0 < k → added t ((48 + n) ∷ []) ≡ added t (decimal_in k n)
+pub one_digit : (t : Text) (n k : ℕ) → n < 10 → 0 < k → added t ((48 + n % 10) ∷ []) ≡ added t (decimal_in k n)
 one_digit t n zero h p = absurd (omega arith)
-one_digit t n (suc k) h p = rw (lt-ltb n 10 h)
+one_digit t n (suc k) h p = let e : n % 10 ≡ n = omega arith in rw (lt-ltb n 10 h, e)
 
 -- the digits of a tenth stand in s
 pub one_more : (t s : Text) (n k : ℕ) → 10 ≤ n → n < 10 ^ k

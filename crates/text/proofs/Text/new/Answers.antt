@@ -1,7 +1,7 @@
 -- The definition at no bytes.
-use mathlib.Core.Path.{refl}
+use Rattle.std.proofs.Common.{refl}
 use Rattle.text.specs.Text.{text_of, added}
-use Rattle.text.proofs.empty.Goals as goal
+use Rattle.text.proofs.Text.new.Goals as goal
 
 pub returns : goal.returns
 unfolding text_of added
