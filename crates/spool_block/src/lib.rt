@@ -36,8 +36,7 @@ impl From<Fault> for u32 {
 }
 
 // BLAKE2s-256 of bytes 0 to 479.
-fn check_of(b: &[u8]) -> [u8; 32]
-    requires { 480 ≤ length b.now }
+fn check_of(b: &[u8; 512]) -> [u8; 32]
     ensures { result ≡ blake2s [] (take 480 b.now) 32 }
 {
     let key = [0u8; 0];
@@ -46,12 +45,11 @@ fn check_of(b: &[u8]) -> [u8; 32]
     d
 }
 
-fn check_is_good(b: &[u8]) -> bool
-    requires { 512 ≤ length b.now }
+#[tactic(auto, unfolding(crate::specs::Block::good_check))]
+fn check_is_good(b: &[u8; 512]) -> bool
     ensures { result ≡ good_check b.now }
 {
-    let d = check_of(b);
-    endian::equal(&b[480..512], &d)
+    endian::equal(&b[480..], &check_of(b))
 }
 
 // The number in four bytes from a place on.
@@ -65,42 +63,31 @@ fn number_at(b: &[u8], at: usize) -> u32
 fn is_last(place: usize, blocks: usize) -> bool
     ensures { result ≡ eqb (place + 1) blocks }
 {
-    if blocks == 0 {
-        return false;
-    }
-    place == blocks - 1
+    blocks != 0 && place == blocks - 1
 }
 
 // Whether a block may use so many bytes.
+#[tactic(auto, unfolding(crate::specs::Block::good_count))]
 fn count_is_good(place: usize, blocks: usize, count: u32) -> bool
     ensures { result ≡ good_count blocks place count }
 {
     if !is_last(place, blocks) {
         return count == 472;
     }
-    if count == 0 {
-        return false;
-    }
-    if place == 277 {
-        return count <= 328;
-    }
-    count <= 472
+    let most = if place == 277 { 328 } else { 472 };
+    1 <= count && count <= most
 }
 
 // Whether the bytes that are not used are zero.
-fn filler_is_good(b: &[u8], count: u32) -> bool
-    requires { (512 ≤ length b.now) × (count ≡ count_in b.now) × (count ≤ 472) }
+fn filler_is_good(b: &[u8; 512], count: u32) -> bool
+    requires { (count ≡ count_in b.now) × (count ≤ 472) }
     ensures { result ≡ good_filler b.now }
 {
-    let none = [0u8; 472];
-    let from = 8 + count as usize;
-    let n = 472 - count as usize;
-    endian::equal(&b[from..480], &none[..n])
+    b[8 + count as usize..480].iter().all(|byte| *byte == 0)
 }
 
-// The tests of 512 bytes, in the order of their numbers.
-fn first_fault(b: &[u8], place: usize, blocks: usize) -> Result<(), Fault>
-    requires { 512 ≤ length b.now }
+// The tests of a block, in the order of their numbers.
+fn first_fault(b: &[u8; 512], place: usize, blocks: usize) -> Result<(), Fault>
     ensures { number_of result ≡ block_refusal blocks place b.now }
 {
     if !check_is_good(b) {
@@ -120,23 +107,14 @@ fn first_fault(b: &[u8], place: usize, blocks: usize) -> Result<(), Fault>
 pub fn check(b: &[u8], place: usize, blocks: usize) -> Result<(), Fault>
     ensures { number_of result ≡ block_refusal blocks place b.now }
 {
-    if b.len() < 512 {
-        return Err(Fault::Check);
-    }
-    first_fault(b, place, blocks)
+    first_fault(b.first_chunk().ok_or(Fault::Check)?, place, blocks)
 }
 
 // Whether a block is good at a place. The number is looked at first: most spares have another one, and the check costs a hash.
 pub fn is_good(b: &[u8], place: usize, blocks: usize) -> bool
     ensures { result ≡ is_good blocks place b.now }
 {
-    if b.len() < 512 {
-        return false;
-    }
-    if number_at(b, 0) as usize != place {
-        return false;
-    }
-    first_fault(b, place, blocks).is_ok()
+    4 <= b.len() && number_at(b, 0) as usize == place && check(b, place, blocks).is_ok()
 }
 
 // The program bytes that a block uses.
