@@ -4,13 +4,14 @@ use mathlib.Core.Bool.{true}
 use mathlib.Core.List.{List, [], ◌∷◌, ◌++◌, append-nil, append_assoc}
 use mathlib.Core.Path.{◌≡◌, refl, sym, ap, ◌∙◌}
 use native.Mathlib.Omega.{arith}
-use lib.ListN.{length, take, drop, length-append, length-replicate, replicate-append-replicate}
-use lib.Seq.{take_all, take_at, drop_at, drop-length}
+use lib.ListN.{length, take, drop, length-append, length-replicate, replicate-append-replicate, drop_of_length-le}
+use lib.Seq.{paste, take_all, take_at, drop_at}
+use Rattle.std.proofs.lemmas.List.Edits.{paste_all, paste-paste}
 use Rattle.rfc7693.specs.Rfc7693.{blake2s}
 use Rattle.rfc7693.proofs.Lengths.{digest_length}
-use Rattle.endian.specs.Lists.{zeros, padded, put_at}
+use Rattle.endian.specs.Lists.{zeros, padded}
 use Rattle.endian.specs.Fields.{field_of, number_in, word_bytes}
-use Rattle.endian.proofs.Lists.{drop_replicate, put_fits}
+use Rattle.endian.proofs.Lists.{drop_replicate}
 use Rattle.endian.proofs.Same.{same_refl}
 use Rattle.endian.proofs.Words.{bytes_length, word_back}
 use Rattle.spool_block.specs.Block.{number_field, program_field, count_in, used_in, filler_in, good_check, good_count, good_filler, block_refusal}
@@ -32,38 +33,36 @@ module _ (i : ℕ) (x : List ℕ) (h : length x ≤ 472) where
   unfolding block_of
   block_length = let a = part_length in let b = digest_length (checked_part i x) in rw length-append (omega arith)
 
--- bytes put behind the front f of a list
-behind : (f z x : List ℕ) (n : ℕ) → length f ≡ n → length x ≤ length z → put_at n x (f ++ z) ≡ f ++ x ++ drop (length x) z
-behind f z x n e h = put_fits n x (f ++ z) (rw length-append (omega arith)) ∙ rw (take_at f z n e, drop_at f z n e)
-
-pub fronted : (f : List ℕ) → length f ≡ 8 → put_at 0 f (zeros 512) ≡ f ++ zeros 504
-fronted f e = put_fits 0 f (zeros 512) (omega arith) ∙ rw e
-
--- front and program bytes put into zeros
-pub unchecked_block : (i : ℕ) (x : List ℕ) → length x ≤ 472
-    → put_at 8 x (put_at 0 (word_bytes i ++ word_bytes (length x)) (zeros 512)) ≡ checked_part i x ++ zeros 32
+-- front and program bytes pasted into zeros
+pub unchecked_block : (i : ℕ) (x f : List ℕ) → length x ≤ 472 → f ≡ word_bytes i ++ word_bytes (length x)
+    → paste (paste (zeros 512) 0 f (length f)) 8 x (length x) ≡ checked_part i x ++ zeros 32
 unfolding checked_part
-unchecked_block i x h =
+unchecked_block i x f h e =
     let c = length x in
-    let f = word_bytes i ++ word_bytes c in
     let a = word_length i in
     let b = word_length c in
-    let l : length f ≡ 8 = rw length-append (omega arith) in
-    let e : 504 - c ≡ 472 - c + 32 = omega arith in
-    let t : drop c (zeros 504) ≡ zeros (472 - c) ++ zeros 32 = drop_replicate c 504 0 ∙ ap zeros e ∙ sym (replicate-append-replicate (472 - c) 32 0) in
-    ap (put_at 8 x) (fronted f l) ∙ behind f (zeros 504) x 8 l (omega arith) ∙ ap (λ (z : List ℕ). f ++ x ++ z) t ∙ regroup f x (zeros (472 - c)) (zeros 32)
+    let l : length f ≡ 8 = rw (e, length-append) (omega arith) in
+    let n : 8 + c ≡ length (f ++ x) = rw (length-append, l) in
+    let k : 504 - c ≡ 472 - c + 32 = omega arith in
+    let m : 512 - (0 + (8 + c)) ≡ 504 - c = omega arith in
+    let t : drop (0 + (8 + c)) (zeros 512) ≡ zeros (472 - c) ++ zeros 32 =
+    drop_replicate (0 + (8 + c)) 512 0 ∙ ap zeros (m ∙ k) ∙ sym (replicate-append-replicate (472 - c) 32 0) in
+    ap (λ j. paste (paste (zeros 512) 0 f j) 8 x c) l ∙ paste-paste (zeros 512) 0 f x 8 c (sym l) refl (omega arith)
+        ∙ paste_all (zeros 512) 0 (f ++ x) (8 + c) n ∙ ap (λ (z : List ℕ). f ++ x ++ z) t ∙ regroup f x (zeros (472 - c)) (zeros 32)
+        ∙ ap (λ (z : List ℕ). z ++ padded 472 x ++ zeros 32) e
   where
     regroup : (f x y z : List ℕ) → f ++ x ++ (y ++ z) ≡ f ++ (x ++ y) ++ z
     regroup f x y z = simp append_assoc
 
--- the check put behind the first 480 bytes
-pub checked : (b z : List ℕ) → length b ≡ 480 → length z ≡ 32 → put_at 480 (blake2s [] (take 480 (b ++ z)) 32) (b ++ z) ≡ b ++ blake2s [] b 32
-checked b z e l = ap (λ (y : List ℕ). put_at 480 (blake2s [] y 32) (b ++ z)) (take_at b z 480 e) ∙ placed (blake2s [] b 32) (digest_length b)
-  where
-    placed : (k : List ℕ) → length k ≡ 32 → put_at 480 k (b ++ z) ≡ b ++ k
-    placed k m =
-        let n : drop (length k) z ≡ [] = ap (λ (j : ℕ). drop j z) (m ∙ sym l) ∙ drop-length z in
-        behind b z k 480 e (omega arith) ∙ ap (λ (y : List ℕ). b ++ k ++ y) n ∙ append-nil (b ++ k)
+-- the check pasted behind the first 480 bytes
+pub checked : (b z k : List ℕ) → length b ≡ 480 → length z ≡ 32 → k ≡ blake2s [] (take 480 (b ++ z)) 32
+    → paste (b ++ z) 480 k (length k) ≡ b ++ blake2s [] b 32
+checked b z k e l h =
+    let t = take_at b z 480 e in
+    let g : k ≡ blake2s [] b 32 = h ∙ ap (λ (y : List ℕ). blake2s [] y 32) t in
+    let m = digest_length b in
+    let n : drop (480 + length k) (b ++ z) ≡ [] = drop_of_length-le (b ++ z) (rw (length-append, g) (omega arith)) in
+    paste_all (b ++ z) 480 k (length k) refl ∙ rw (t, n, g) (ap (λ (y : List ℕ). b ++ y) (append-nil (blake2s [] b 32)))
 
 -- the fields of a block that was made
 module _ (i : ℕ) (x : List ℕ) (small : i < 2 ^ 32) (fits : length x ≤ 472) where

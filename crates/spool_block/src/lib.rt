@@ -2,7 +2,7 @@
 // Change request 10 in the terms of specs/: Block (when a block is good), Making (as it is written).
 #![tactic(auto)]
 
-ghost use Rattle.std.specs.Prelude.{◌≡◌, [], ◌++◌, ◌+◌, ◌≤◌, eqb, length, take};
+ghost use Rattle.std.specs.Prelude.{◌≡◌, [], ◌++◌, ◌+◌, ◌≤◌, ◌↔◌, eqb, length, take, IsTrue, All};
 ghost use Rattle.rfc7693.specs.Rfc7693.{blake2s};
 ghost use Rattle.endian.specs.Lists.{zeros};
 ghost use Rattle.endian.specs.Fields.{number_in, word_bytes};
@@ -36,13 +36,11 @@ impl From<Fault> for u32 {
 }
 
 // BLAKE2s-256 of bytes 0 to 479.
+#[tactic(auto, using(blake2s::proofs::Numbers::digest_zeros))]
 fn check_of(b: &[u8; 512]) -> [u8; 32]
     ensures { result ≡ blake2s [] (take 480 b.now) 32 }
 {
-    let key = [0u8; 0];
-    let mut d = [0u8; 32];
-    let _ = blake2s::hash(&key, &b[..480], &mut d);
-    d
+    blake2s::digest(&b[..480])
 }
 
 #[tactic(auto, unfolding(crate::specs::Block::good_check))]
@@ -57,7 +55,7 @@ fn number_at(b: &[u8], at: usize) -> u32
     requires { at + 4 ≤ length b.now }
     ensures { result ≡ number_in (record { from = at; size = 4 }) b.now }
 {
-    endian::word(b[at], b[at + 1], b[at + 2], b[at + 3])
+    endian::word(endian::part(b, at))
 }
 
 fn is_last(place: usize, blocks: usize) -> bool
@@ -78,15 +76,22 @@ fn count_is_good(place: usize, blocks: usize, count: u32) -> bool
     1 <= count && count <= most
 }
 
+fn all_zero(bytes: &[u8]) -> bool
+    ensures { IsTrue result ↔ All (λ byte. byte ≡ 0) bytes.now }
+{
+    bytes.iter().all(|byte| *byte == 0)
+}
+
 // Whether the bytes that are not used are zero.
 fn filler_is_good(b: &[u8; 512], count: u32) -> bool
     requires { (count ≡ count_in b.now) × (count ≤ 472) }
     ensures { result ≡ good_filler b.now }
 {
-    b[8 + count as usize..480].iter().all(|byte| *byte == 0)
+    all_zero(&b[8 + count as usize..480])
 }
 
 // The tests of a block, in the order of their numbers.
+#[tactic(auto, using(crate::proofs::Blocks::count_most), unfolding(crate::specs::Block::block_refusal))]
 fn first_fault(b: &[u8; 512], place: usize, blocks: usize) -> Result<(), Fault>
     ensures { number_of result ≡ block_refusal blocks place b.now }
 {
@@ -104,6 +109,7 @@ fn first_fault(b: &[u8; 512], place: usize, blocks: usize) -> Result<(), Fault>
 }
 
 // Whether a block is good at a place of a spool of so many blocks, and otherwise its first fault. Fewer than 512 bytes have no whole check.
+#[tactic(auto, using(crate::proofs::Blocks::short_block, crate::proofs::Blocks::block_front))]
 pub fn check(b: &[u8], place: usize, blocks: usize) -> Result<(), Fault>
     ensures { number_of result ≡ block_refusal blocks place b.now }
 {
@@ -111,10 +117,14 @@ pub fn check(b: &[u8], place: usize, blocks: usize) -> Result<(), Fault>
 }
 
 // Whether a block is good at a place. The number is looked at first: most spares have another one, and the check costs a hash.
+#[tactic(auto, using(crate::proofs::Blocks::other_number, crate::proofs::Blocks::short_bad))]
 pub fn is_good(b: &[u8], place: usize, blocks: usize) -> bool
     ensures { result ≡ is_good blocks place b.now }
 {
-    4 <= b.len() && number_at(b, 0) as usize == place && check(b, place, blocks).is_ok()
+    if b.len() < 512 || number_at(b, 0) as usize != place {
+        return false;
+    }
+    check(b, place, blocks).is_ok()
 }
 
 // The program bytes that a block uses.
@@ -147,8 +157,8 @@ fn unchecked(number: u32, x: &[u8]) -> [u8; 512]
 {
     let front = front(number, x.len() as u32);
     let mut b = [0u8; 512];
-    endian::put(&mut b, 0, &front);
-    endian::put(&mut b, 8, x);
+    endian::paste(&mut b, 0, &front);
+    endian::paste(&mut b, 8, x);
     b
 }
 
@@ -158,6 +168,6 @@ pub fn make(number: u32, x: &[u8]) -> [u8; 512]
 {
     let mut b = unchecked(number, endian::first(x, 472));
     let check = check_of(&b);
-    endian::put(&mut b, 480, &check);
+    endian::paste(&mut b, 480, &check);
     b
 }
