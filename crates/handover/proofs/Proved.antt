@@ -8,6 +8,7 @@ use native.Mathlib.Omega.{arith}
 use lib.Dec.{eqb, ltb}
 use lib.ListN.{length, length-append}
 use borrow.Author.Tests.{eq-eqb, lt-ltb, ltb-true, ltb-false, eqb-true, eqb-false}
+use Rattle.std.specs.Prelude.{Result, Ok, Err}
 use Rattle.endian.specs.Endian.{word, first_bytes}
 use Rattle.endian.specs.Lists.{zeros}
 use Rattle.endian.proofs.Cases.{impossible}
@@ -18,8 +19,8 @@ use Rattle.record.specs.Record.{Field, type_field, mask_field, first_digest_fiel
 use Rattle.rfc7693.specs.Rfc7693.{rotr, words, iv, sigma, added, xor_rotated, G, work_vector, round, rounds, F, input, block_at, block_count, leading, compressions, compressed, initial, blake2s}
 use Rattle.handover.specs.Reset.{number_of, Next, mixed, measured_id_for, word_bytes, written_record, inputs_fit, HandedOver, handed_over, resetting}
 use Rattle.handover.specs.Theorems.{Typed, InputsFit, Settles, Fields, asked, Gives, counting, Examples, Handovers}
-use Rattle.handover.specs.declared.Answer.{Answer}
-use Rattle.handover.specs.declared.Answer.TheVariants.{Accepted, NextType, RecordLength, InputLength}
+use Rattle.handover.specs.declared.Refusal.{Refusal}
+use Rattle.handover.specs.declared.Refusal.TheVariants.{NextType, RecordLength, InputLength}
 use Rattle.handover.proofs.Numbers.{fit_lengths, by_type_is, by_record, by_inputs, by_none, accepted_is}
 use Rattle.handover.proofs.Records.{word_length, front_length, parts}
 
@@ -127,14 +128,14 @@ module _ (x : Next) (id : List ℕ) (h : Typed x) (known : x.type ≤ 5) (hd : l
 -- ---- the answers, and when a reset is accepted
 
 -- the answer of a number
-abbrev answer_with : ℕ → Answer
-answer_with n = cond (eqb n 0) Accepted (cond (eqb n 44) NextType (cond (eqb n 45) RecordLength InputLength))
+abbrev answer_with : ℕ → Result (Unit {0}) Refusal
+answer_with n = cond (eqb n 0) (Ok tt) (cond (eqb n 44) (Err NextType) (cond (eqb n 45) (Err RecordLength) (Err InputLength)))
 
-answer_back : (a : Answer) → answer_with (number_of a) ≡ a
-answer_back Accepted = refl
-answer_back NextType = refl
-answer_back RecordLength = refl
-answer_back InputLength = refl
+answer_back : (a : Result (Unit {0}) Refusal) → answer_with (number_of a) ≡ a
+answer_back (Ok done) = refl
+answer_back (Err NextType) = refl
+answer_back (Err RecordLength) = refl
+answer_back (Err InputLength) = refl
 
 module _ (cdi seed : List ℕ) (x : Next) (rec : List ℕ) where
   abbrev fit : Bool

@@ -1,16 +1,20 @@
 -- How a record is put together: field behind field, whatever was there before.
-use Prim.Native.Nat.{ℕ, ◌+◌, ◌≤◌}
+use Prim.Native.Nat.{ℕ, ◌+◌, ◌/◌, ◌%◌, ◌≤◌}
 use mathlib.Core.Path.{◌≡◌, refl, sym, ap, ◌∙◌}
 use mathlib.Core.Bool.{Bool, true, false, cond}
-use mathlib.Core.List.{List, [], ◌∷◌, ◌++◌, append-nil, foldl}
+use mathlib.Core.List.{List, [], ◌∷◌, ◌++◌, append_assoc, append-nil, foldl}
 use native.Mathlib.Omega.{arith}
-use lib.ListN.{length, drop, length-append, length-drop}
-use lib.Seq.{take_at, drop_at}
+use lib.ListN.{length, take, drop, length-append, length-drop}
+use lib.Seq.{take_at, drop_at, paste, drop-drop}
+use Rattle.std.proofs.lemmas.List.Edits.{paste_all}
+use Rattle.std.specs.Int.{to_le_bytes}
+use mir.Syntax.{w32}
+use Rattle.endian.specs.Endian.{first_bytes}
 use Rattle.endian.specs.Lists.{zeros}
 use Rattle.endian.proofs.Lists.{empty}
 use Rattle.endian.proofs.Words.{bytes_length}
 use Rattle.record.specs.Record.{Field, type_field, mask_field, first_digest_field, measured_id_field, second_digest_field, data_field, has_second}
-use Rattle.handover.specs.Reset.{Next, next_of, word_bytes, put, written_record}
+use Rattle.handover.specs.Reset.{Next, word_bytes, put, written_record}
 
 pub from_size : (has : Bool) → (data_field has).from + (data_field has).size ≤ 256
 from_size true = omega arith
@@ -109,21 +113,42 @@ module _ (x : Next) (id : List ℕ) (hf : length x.first ≡ 32) (hi : length id
   any_record : (rec : List ℕ) → length rec ≡ 256 → stores has rec ≡ written_record x id
   any_record rec hr = joins rec hr ∙ sym parts
 
+-- the bytes of a number as the code writes them
+pub low_bytes : (n : ℕ) → to_le_bytes w32 n ≡ word_bytes n
+unfolding first_bytes
+low_bytes n =
+    let e : n ≡ n / 1 = omega arith in
+    ap (λ (m : ℕ). m % 256 ∷ n / 256 % 256 ∷ n / 65536 % 256 ∷ n / 16777216 % 256 ∷ []) e
+
+-- bytes written at a place, as a field is put
+pub pasted : (o s : List ℕ) (from size : ℕ) → size ≡ length s → paste o from s (length s) ≡ put (record { from = from; size = size }) s o
+pasted o s from size e = rw e (paste_all o from s (length s) refl ∙ ap (λ (l : List ℕ). take from o ++ (s ++ l)) (sym (drop-drop (length s) from o)) ∙ sym (append_assoc (take from o) s (drop (length s) (drop from o))))
+
 -- six stores, one after the other
-module _ (type mask : ℕ) (first id second next_data : List ℕ) (hf : length first ≡ 32) (hi : length id ≡ 32) (hs : length second ≡ 32) where
-  pub stored : (o0 o1 o2 o3 o4 o5 o6 : List ℕ) (from : ℕ) → length o0 ≡ 256 → length next_data ≡ (data_field (has_second mask)).size
-      → from ≡ (data_field (has_second mask)).from → o1 ≡ put type_field (word_bytes type) o0 → o2 ≡ put mask_field (word_bytes mask) o1
-      → o3 ≡ put (record { from = 8; size = length first }) first o2 → o4 ≡ put (record { from = 40; size = length id }) id o3
-      → o5 ≡ cond (has_second mask) (put second_digest_field second o4) o4
-      → o6 ≡ put (record { from = from; size = length next_data }) next_data o5 → o6 ≡ written_record (next_of type mask first second next_data) id
-  stored o0 o1 o2 o3 o4 o5 o6 from h0 hd hw e1 e2 e3 e4 e5 e6 =
-      rw (e6, e5, e4, e3, e2, e1, hf, hi, hd, hw) (any_record (next_of type mask first second next_data) id hf hi hs hd o0 h0)
+module _ (x : Next) (id : List ℕ) (hf : length x.first ≡ 32) (hi : length id ≡ 32) (hs : length x.second ≡ 32)
+    (hd : length x.next_data ≡ (data_field (has_second x.mask)).size) where
+  pub stored : (o0 o1 o2 o3 o4 o5 o6 : List ℕ) (from : ℕ) → length o0 ≡ 256
+      → from ≡ (data_field (has_second x.mask)).from → o1 ≡ paste o0 0 (word_bytes x.type) (length (word_bytes x.type))
+      → o2 ≡ paste o1 4 (word_bytes x.mask) (length (word_bytes x.mask))
+      → o3 ≡ paste o2 8 x.first (length x.first) → o4 ≡ paste o3 40 id (length id)
+      → o5 ≡ cond (has_second x.mask) (paste o4 72 x.second (length x.second)) o4
+      → o6 ≡ paste o5 from x.next_data (length x.next_data) → o6 ≡ written_record x id
+  stored o0 o1 o2 o3 o4 o5 o6 from h0 hw e1 e2 e3 e4 e5 e6 =
+      let p1 = pasted o0 (word_bytes x.type) 0 4 (sym (word_length x.type)) in
+      let p2 = pasted o1 (word_bytes x.mask) 4 4 (sym (word_length x.mask)) in
+      let p3 = pasted o2 x.first 8 32 (sym hf) in
+      let p4 = pasted o3 id 40 32 (sym hi) in
+      let p5 = pasted o4 x.second 72 32 (sym hs) in
+      let p6 = pasted o5 x.next_data from (data_field (has_second x.mask)).size (sym hd) in
+      rw (e6, p6, e5, p5, e4, p4, e3, p3, e2, p2, e1, p1, hw) (any_record x id hf hi hs hd o0 h0)
 
 -- CDI and seed in a buffer of 64 bytes
 module _ (cdi seed : List ℕ) (hc : length cdi ≡ 32) (hs : length seed ≡ 32) where
-  pub joined : (o1 o2 : List ℕ) → o1 ≡ put (record { from = 0; size = length cdi }) cdi (zeros 64)
-      → o2 ≡ put (record { from = 32; size = length seed }) seed o1 → o2 ≡ cdi ++ seed
-  joined o1 o2 e1 e2 = rw (e2, e1, hc, hs) (last (record { from = 32; size = 32 }) cdi (zeros 32) seed hc refl)
+  pub joined : (o1 o2 : List ℕ) → o1 ≡ paste (zeros 64) 0 cdi (length cdi) → o2 ≡ paste o1 32 seed (length seed) → o2 ≡ cdi ++ seed
+  joined o1 o2 e1 e2 =
+      let p1 = pasted (zeros 64) cdi 0 32 (sym hc) in
+      let p2 = pasted o1 seed 32 32 (sym hs) in
+      rw (e2, p2, e1, p1) (last (record { from = 32; size = 32 }) cdi (zeros 32) seed hc refl)
 
   pub joined_length : length (cdi ++ seed) ≡ 64
   joined_length = length-append cdi seed ∙ omega arith

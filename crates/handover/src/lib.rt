@@ -3,9 +3,9 @@
 // Change request 7 and source document 002, RESET, in the terms of specs/Reset.antt.
 #![tactic(auto)]
 
-ghost use Rattle.std.specs.Prelude.{◌≡◌, ◌+◌, ◌≤◌, length};
+ghost use Rattle.std.specs.Prelude.{◌≡◌, length};
 ghost use Rattle.record.specs.Record.{data_field, reset_seed, has_second};
-ghost use Rattle.handover.specs.Reset.{refusal_number, number_of, asked_in, mixed, measured_id_for, word_bytes, put, written_record, inputs_fit, handed_over, resetting};
+ghost use Rattle.handover.specs.Reset.{refusal_number, number_of, asked_in, mixed, measured_id_for, written_record, inputs_fit, handed_over, resetting};
 
 // Why a reset is refused; it then changes nothing.
 #[derive(Clone, Copy, Debug, PartialEq, Eq)]
@@ -71,36 +71,15 @@ impl Next<'_> {
     }
 }
 
-// Writes bytes from a place on.
-fn put(out: &mut [u8], from: usize, bytes: &[u8])
-    requires { from + length bytes.now ≤ length out.old }
-    ensures { out.new ≡ put (record { from = from; size = length bytes.now }) bytes.now out.old }
-{
-    let to = from + bytes.len();
-    out[from..to].copy_from_slice(bytes);
-}
-
-// Writes a number of 32 bits from a place on, lowest byte first.
-fn put_number(out: &mut [u8], from: usize, n: u32)
-    requires { from + 4 ≤ length out.old }
-    ensures { out.new ≡ put (record { from = from; size = 4 }) (word_bytes n) out.old }
-{
-    let words = [n];
-    endian::write_bytes(&words, &mut out[from..from + 4]);
-}
-
 // BLAKE2s-256 of CDI and seed.
 fn mix(cdi: &[u8], seed: &[u8]) -> [u8; 32]
     requires { (length cdi.now ≡ 32) × (length seed.now ≡ 32) }
     ensures { result ≡ mixed cdi.now seed.now }
 {
-    let key = [0u8; 0];
     let mut both = [0u8; 64];
-    let mut d = [0u8; 32];
-    put(&mut both, 0, cdi);
-    put(&mut both, 32, seed);
-    let _ = blake2s::hash(&key, &both, &mut d);
-    d
+    endian::paste(&mut both, 0, cdi);
+    endian::paste(&mut both, 32, seed);
+    blake2s::digest(&both)
 }
 
 // measured_id of the next record.
@@ -120,14 +99,14 @@ fn write(out: &mut [u8], next: Next<'_>, measured_id: [u8; 32])
     requires { (length out.old ≡ 256) × (length next.next_data.now ≡ (data_field (has_second next.mask)).size) }
     ensures { out.new ≡ written_record (asked_in next.entry) measured_id }
 {
-    put_number(out, 0, next.next_type);
-    put_number(out, 4, next.mask);
-    put(out, 8, &next.first);
-    put(out, 40, &measured_id);
+    endian::paste(out, 0, &next.next_type.to_le_bytes());
+    endian::paste(out, 4, &next.mask.to_le_bytes());
+    endian::paste(out, 8, &next.first);
+    endian::paste(out, 40, &measured_id);
     if next.has_second() {
-        put(out, 72, &next.second);
+        endian::paste(out, 72, &next.second);
     }
-    put(out, next.data_from(), next.next_data);
+    endian::paste(out, next.data_from(), next.next_data);
 }
 
 // Hands over to the next program: writes the record of its start, and zeroes the CDI.
