@@ -8,6 +8,7 @@ use lib.Dec.{eqb}
 use lib.ListN.{length, length-append}
 use borrow.Author.Tests.{eq-eqb}
 use Rattle.protocol.specs.Commands.{blocks_for}
+use Rattle.std.specs.Prelude.{Result, Ok, Err}
 use Rattle.text.specs.Text.{ascii, hex_of, decimal_of}
 use Rattle.text.proofs.Proved.{texts}
 use Rattle.head.specs.Answers.{refusal_number, stop_number}
@@ -16,13 +17,13 @@ use Rattle.head.specs.declared.Refusal.{Refusal}
 use Rattle.head.specs.declared.Stop.{Stop}
 use Rattle.head.specs.declared.Stop.TheVariants.{UnknownType, HeaderBit, Command, BodyLength, Digest, ProgramSize}
 use Rattle.head.specs.declared.Answer.{Answer}
-use Rattle.head.specs.declared.Answer.TheVariants.{Refused, Continue, Whole, Stopped, Started}
+use Rattle.head.specs.declared.Answer.TheVariants.{Continue, Whole, Stopped, Started}
 use Rattle.display.specs.Shown.{loading_line, block_text, all_blocks, start_line, words_of, stop_line, refusal_line}
 use Rattle.display.specs.Shown.{begin_text, progress_text, before_stop, received_text}
-use Rattle.display.specs.Theorems.{Display}
+use Rattle.display.specs.Theorems.{cdi_of, Display}
 
-same_progress : (terminal : Bool) (p : Progress) (cdi : List ℕ) → received_text terminal p Continue p cdi ≡ []
-same_progress terminal p cdi = rw (eq-eqb p.size p.size refl, eq-eqb p.block p.block refl)
+same_progress : (terminal : Bool) (p : Progress) → received_text terminal p (Ok Continue) p ≡ []
+same_progress terminal p = rw (eq-eqb p.size p.size refl, eq-eqb p.block p.block refl)
 
 -- ---- the lengths
 
@@ -89,43 +90,43 @@ before_long terminal p s = go (eqb (stop_number s) 25) terminal (eqb p.block 0)
     go false true false = omega arith
     go false false b = omega arith
 
-begin_fits : (a : Answer) (cdi : List ℕ) → length cdi ≡ 32 → length (begin_text a cdi) ≤ 512
-begin_fits Continue cdi h = omega arith
-begin_fits Whole cdi h = omega arith
-begin_fits (Refused r) cdi h = omega (arith, refusal_long r)
-begin_fits (Stopped s) cdi h = omega (arith, stop_long s)
-begin_fits (Started address n) cdi h = omega (arith, start_long n cdi h)
+begin_fits : (a : Result Answer Refusal) → length (cdi_of a) ≡ 32 → length (begin_text a) ≤ 512
+begin_fits (Ok Continue) h = omega arith
+begin_fits (Ok Whole) h = omega arith
+begin_fits (Ok (Stopped s)) h = omega (arith, stop_long s)
+begin_fits (Ok (Started x)) h = omega (arith, start_long x.size x.cdi h)
+begin_fits (Err r) h = omega (arith, refusal_long r)
 
-fits : (terminal : Bool) (p : Progress) (a : Answer) (q : Progress) (cdi : List ℕ) → length cdi ≡ 32
-    → length (received_text terminal p a q cdi) ≤ 512
-fits terminal p Continue q cdi h = omega (arith, progress_long terminal p q)
-fits terminal p Whole q cdi h = omega arith
-fits terminal p (Refused r) q cdi h = omega (arith, refusal_long r)
-fits terminal p (Stopped s) q cdi h =
+fits : (terminal : Bool) (p : Progress) (a : Result Answer Refusal) (q : Progress) → length (cdi_of a) ≡ 32
+    → length (received_text terminal p a q) ≤ 512
+fits terminal p (Ok Continue) q h = omega (arith, progress_long terminal p q)
+fits terminal p (Ok Whole) q h = omega arith
+fits terminal p (Ok (Stopped s)) q h =
     both (before_stop terminal p s) (stop_line s) 512 (omega (arith, before_long terminal p s, stop_long s))
-fits terminal p (Started address n) q cdi h =
+fits terminal p (Ok (Started x)) q h =
     let b = all_long terminal (blocks_for p.size) in
-    both (all_blocks terminal (blocks_for p.size)) (start_line n cdi) 512 (omega (arith, start_long n cdi h))
+    both (all_blocks terminal (blocks_for p.size)) (start_line x.size x.cdi) 512 (omega (arith, start_long x.size x.cdi h))
+fits terminal p (Err r) q h = omega (arith, refusal_long r)
 
 pub display : Display
 unfolding decimal_of start_line stop_line
 display = record {
-  begins = λ cdi. refl;
+  begins = refl;
   loads = refl;
   block = refl;
-  start = λ q. refl;
+  start = λ q digest. refl;
   block_elsewhere = refl;
-  start_elsewhere = λ q. refl;
-  start_from_flash = refl;
+  start_elsewhere = λ q digest. refl;
+  start_from_flash = λ digest. refl;
   quiet = same_progress;
-  stop_20 = λ cdi. refl;
-  stop_22 = λ p q cdi. refl;
-  stop_23 = λ p q cdi. refl;
-  stop_24 = λ p q cdi. refl;
-  stop_25 = λ q cdi. refl;
-  stop_25_from_flash = λ cdi. refl;
-  stop_26 = λ cdi. refl;
-  stop_within = λ q cdi. refl;
+  stop_20 = refl;
+  stop_22 = λ p q. refl;
+  stop_23 = λ p q. refl;
+  stop_24 = λ p q. refl;
+  stop_25 = λ q. refl;
+  stop_25_from_flash = refl;
+  stop_26 = refl;
+  stop_within = λ q. refl;
   begin_fits = begin_fits;
   fits = fits;
 }

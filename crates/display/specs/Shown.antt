@@ -1,6 +1,6 @@
 -- What a simulated head shows of its session, line by line. On a terminal the blocks are one line, which each block writes again from its
 -- start; elsewhere there is one line once all have come.
-use Rattle.std.specs.Prelude.{ℕ, Bool, cond, List, [], ◌++◌, eqb}
+use Rattle.std.specs.Prelude.{ℕ, Bool, cond, List, [], ◌++◌, eqb, Result, Ok, Err}
 use Rattle.protocol.specs.Commands.{blocks_for}
 use Rattle.text.specs.Text.{ascii, hex_of, decimal_of}
 use Rattle.head.specs.Answers.{refusal_number, stop_number}
@@ -8,7 +8,7 @@ use Rattle.head.specs.declared.Refusal.{Refusal}
 use Rattle.head.specs.declared.Stop.{Stop}
 use Rattle.head.specs.declared.Stop.TheVariants.{UnknownType, HeaderBit, Command, BodyLength, Digest, ProgramSize}
 use Rattle.head.specs.declared.Answer.{Answer}
-use Rattle.head.specs.declared.Answer.TheVariants.{Refused, Continue, Whole, Stopped, Started}
+use Rattle.head.specs.declared.Answer.TheVariants.{Continue, Whole, Stopped, Started}
 use Rattle.head.specs.declared.Progress.{Progress}
 
 -- a load of n bytes was taken
@@ -43,13 +43,13 @@ stop_line s = ascii "stopped " ++ decimal_of (stop_number s) ++ ascii ": " ++ wo
 abbrev pub refusal_line : Refusal → List ℕ
 refusal_line r = ascii "refused " ++ decimal_of (refusal_number r) ++ ascii "\n"
 
--- what begin shows: by its answer and the CDI. A program from flash starts without a block, and begin makes no frame whole
-abbrev pub begin_text : Answer → List ℕ → List ℕ
-begin_text Continue cdi = ascii "waiting\n"
-begin_text Whole cdi = []
-begin_text (Refused r) cdi = refusal_line r
-begin_text (Stopped s) cdi = stop_line s
-begin_text (Started address n) cdi = start_line n cdi
+-- what begin shows: by its answer. A program from flash starts without a block, and begin makes no frame whole
+abbrev pub begin_text : Result Answer Refusal → List ℕ
+begin_text (Ok Continue) = ascii "waiting\n"
+begin_text (Ok Whole) = []
+begin_text (Ok (Stopped s)) = stop_line s
+begin_text (Ok (Started x)) = start_line x.size x.cdi
+begin_text (Err r) = refusal_line r
 
 -- a byte after which the session goes on: a size that is new is that of a load, a number that is new that of the next block
 abbrev pub progress_text : Bool → Progress → Progress → List ℕ
@@ -69,19 +69,19 @@ before_stop terminal before s =
     (all_blocks terminal (blocks_for before.size))
     (cond terminal (line_end before.block) [])
 
--- what a received byte shows: by the progress before it, the answer, the progress after it, and the CDI. A frame that is whole with it shows
--- nothing until it is acted on
-abbrev pub received_text : Bool → Progress → Answer → Progress → List ℕ → List ℕ
-received_text terminal before Continue after cdi = progress_text terminal before after
-received_text terminal before Whole after cdi = []
-received_text terminal before (Refused r) after cdi = refusal_line r
-received_text terminal before (Stopped s) after cdi = before_stop terminal before s ++ stop_line s
-received_text terminal before (Started address n) after cdi = all_blocks terminal (blocks_for before.size) ++ start_line n cdi
+-- what a received byte shows: by the progress before it, the answer and the progress after it. A frame that is whole with it shows nothing until
+-- it is acted on
+abbrev pub received_text : Bool → Progress → Result Answer Refusal → Progress → List ℕ
+received_text terminal before (Ok Continue) after = progress_text terminal before after
+received_text terminal before (Ok Whole) after = []
+received_text terminal before (Ok (Stopped s)) after = before_stop terminal before s ++ stop_line s
+received_text terminal before (Ok (Started x)) after = all_blocks terminal (blocks_for before.size) ++ start_line x.size x.cdi
+received_text terminal before (Err r) after = refusal_line r
 
 -- the exit status of a simulation: 0 for a start, the number of a stop, and 1 if it ended with neither
-abbrev pub exit_number : Answer → ℕ
-exit_number Continue = 1
-exit_number Whole = 1
-exit_number (Refused r) = 1
-exit_number (Stopped s) = stop_number s
-exit_number (Started address n) = 0
+abbrev pub exit_number : Result Answer Refusal → ℕ
+exit_number (Ok Continue) = 1
+exit_number (Ok Whole) = 1
+exit_number (Ok (Stopped s)) = stop_number s
+exit_number (Ok (Started x)) = 0
+exit_number (Err r) = 1

@@ -4,173 +4,192 @@
 
 ghost use Rattle.std.specs.Prelude.{◌≡◌};
 ghost use Rattle.protocol.specs.Commands.{blocks_for};
-ghost use Rattle.text.specs.Text.{added, text_of};
-ghost use Rattle.display.specs.Shown.{loading_line, block_text, all_blocks, line_end, before_stop, progress_text};
+ghost use Rattle.text.specs.Text.{text_of};
+ghost use Rattle.display.specs.Shown.{all_blocks, line_end, before_stop, progress_text};
 ghost use Rattle.display.specs.Shown.{start_line, words_of, stop_line, refusal_line, begin_text, received_text, exit_number};
 
-use head::{Answer, Progress, Refusal, Stop};
-use text::Text;
+use head::{Answer, Progress, Refusal, Start, Stop};
+use text::{Hex, Show, Text};
 
-// What is shown of begin's answer, with the CDI of a start.
-pub fn begun(answer: Answer, cdi: [u8; 32]) -> Text
-    ensures { result ≡ text_of (begin_text answer cdi) }
+// What is shown of begin's answer.
+pub fn begun(answer: Result<Answer, Refusal>) -> Text
+    ensures { result ≡ text_of (begin_text answer) }
 {
     match answer {
-        Answer::Continue => text::put_all(text::empty(), b"waiting\n"),
-        Answer::Whole => text::empty(),
-        Answer::Refused(why) => refusal_line(why),
-        Answer::Stopped(why) => stop_line(text::empty(), why),
-        Answer::Started { address: _, size } => start_line(text::empty(), size, cdi),
+        Ok(Answer::Continue) => Text::of("waiting\n"),
+        Ok(Answer::Whole) => Text::new(),
+        Ok(Answer::Stopped(why)) => Text::of(Stopped(why)),
+        Ok(Answer::Started(start)) => Text::of(Started(start)),
+        Err(why) => Text::of(Refused(why)),
     }
 }
 
-// What is shown of a received byte: by how far the load was before it and is after it, the answer, and the CDI of a start. Where a frame is
-// whole with the byte, the answer to show is the one of acting on it.
+// What is shown of a received byte: by how far the load was before it and is after it, and the answer. Where a frame is whole with the
+// byte, the answer to show is the one of acting on it.
 pub fn received(
     terminal: bool,
     before: Progress,
-    answer: Answer,
+    answer: Result<Answer, Refusal>,
     after: Progress,
-    cdi: [u8; 32],
 ) -> Text
-    ensures { result ≡ text_of (received_text terminal before answer after cdi) }
+    ensures { result ≡ text_of (received_text terminal before answer after) }
 {
     match answer {
-        Answer::Continue => progress_text(terminal, before, after),
-        Answer::Whole => text::empty(),
-        Answer::Refused(why) => refusal_line(why),
-        Answer::Stopped(why) => stop_line(before_stop(terminal, before, why), why),
-        Answer::Started { address: _, size } => start_line(
-            all_blocks(terminal, before.size),
-            size,
-            cdi,
-        ),
+        Ok(Answer::Continue) => progress_text(terminal, before, after),
+        Ok(Answer::Whole) => Text::new(),
+        Ok(Answer::Stopped(why)) => Text::of((
+            BeforeStop {
+                terminal,
+                before,
+                why,
+            },
+            Stopped(why),
+        )),
+        Ok(Answer::Started(start)) => Text::of((
+            AllBlocks {
+                terminal,
+                size: before.size,
+            },
+            Started(start),
+        )),
+        Err(why) => Text::of(Refused(why)),
     }
 }
 
 // The exit status of a simulation whose last answer this is.
-pub fn exit_number(answer: Answer) -> u8
+pub fn exit_number(answer: Result<Answer, Refusal>) -> u8
     ensures { result ≡ exit_number answer }
 {
     match answer {
-        Answer::Continue => 1,
-        Answer::Whole => 1,
-        Answer::Refused(_) => 1,
-        Answer::Stopped(why) => head::stop_number(why),
-        Answer::Started {
-            address: _,
-            size: _,
-        } => 0,
+        Ok(Answer::Started(_)) => 0,
+        Ok(Answer::Stopped(why)) => u8::from(why),
+        _ => 1,
     }
 }
 
-// A byte after which the session goes on.
+// A byte after which the session goes on: a load was taken, or a block has come.
 fn progress_text(terminal: bool, before: Progress, after: Progress) -> Text
     ensures { result ≡ text_of (progress_text terminal before after) }
 {
     if before.size != after.size {
-        return loading_line(after.size);
+        let size = after.size;
+        return Text::of(format_args!("loading {size} bytes\n"));
     }
     if before.block == after.block {
-        return text::empty();
+        return Text::new();
     }
     if terminal {
-        return block_text(after.block as u64, protocol::blocks_for(after.size) as u64);
+        let block = after.block;
+        let blocks = protocol::blocks_for(after.size);
+        return Text::of(format_args!("\rblock {block} of {blocks}"));
     }
-    text::empty()
-}
-
-// A load that was taken.
-fn loading_line(size: u32) -> Text
-    ensures { result ≡ text_of (loading_line size) }
-{
-    let t = text::put_all(text::empty(), b"loading ");
-    text::put_all(text::put_decimal(t, size as u64), b" bytes\n")
-}
-
-// The line of blocks, without its end.
-fn block_text(k: u64, n: u64) -> Text
-    ensures { result ≡ text_of (block_text k n) }
-{
-    let t = text::put_all(text::empty(), b"\rblock ");
-    text::put_decimal(text::put_all(text::put_decimal(t, k), b" of "), n)
+    Text::new()
 }
 
 // All blocks of a program have come.
-fn all_blocks(terminal: bool, size: u32) -> Text
-    ensures { result ≡ text_of (all_blocks terminal (blocks_for size)) }
-{
-    let n = protocol::blocks_for(size) as u64;
-    if terminal {
-        return text::put(block_text(n, n), b'\n');
-    }
-    text::put_all(text::put_decimal(text::empty(), n), b" blocks\n")
+#[derive(Clone, Copy)]
+struct AllBlocks {
+    terminal: bool,
+    size: u32,
 }
 
-// What comes before the line of a stop.
-fn before_stop(terminal: bool, before: Progress, why: Stop) -> Text
-    ensures { result ≡ text_of (before_stop terminal before why) }
-{
-    if head::stop_number(why) == 25 {
-        return all_blocks(terminal, before.size);
+impl Show for AllBlocks {
+    ghost words = { λ a. all_blocks a.terminal (blocks_for a.size) };
+
+    fn show(&self, t: &mut Text) {
+        let n = protocol::blocks_for(self.size);
+        if self.terminal {
+            write!(t, "\rblock {n} of {n}\n");
+        } else {
+            write!(t, "{n} blocks\n");
+        }
     }
-    if terminal {
-        return line_end(before.block);
-    }
-    text::empty()
 }
 
-// The end of the line of blocks, if there is one: k have come.
-fn line_end(k: u32) -> Text
-    ensures { result ≡ text_of (line_end k) }
-{
-    if k == 0 {
-        return text::empty();
+// What comes before the line of a stop: stop 25 comes after all blocks, and any other ends the line of blocks, if there is one.
+#[derive(Clone, Copy)]
+struct BeforeStop {
+    terminal: bool,
+    before: Progress,
+    why: Stop,
+}
+
+impl Show for BeforeStop {
+    ghost words = { λ b. before_stop b.terminal b.before b.why };
+
+    fn show(&self, t: &mut Text) {
+        let terminal = self.terminal;
+        if u8::from(self.why) == 25 {
+            let size = self.before.size;
+            AllBlocks { terminal, size }.show(t)
+        } else if terminal && self.before.block != 0 {
+            "\n".show(t)
+        } else {
+            "".show(t)
+        }
     }
-    text::put(text::empty(), b'\n')
 }
 
 // The line of a stop.
-fn stop_line(t: Text, why: Stop) -> Text
-    ensures { result ≡ added t (stop_line why) }
-{
-    let numbered = text::put_decimal(text::put_all(t, b"stopped "), head::stop_number(why) as u64);
-    text::put(put_words(text::put_all(numbered, b": "), why), b'\n')
+#[derive(Clone, Copy)]
+struct Stopped(Stop);
+
+#[tactic(auto, unfolding(crate::specs::Shown::stop_line))]
+impl Show for Stopped {
+    ghost words = { λ s. stop_line s.0 };
+
+    fn show(&self, t: &mut Text) {
+        let number = u8::from(self.0);
+        let words = Words(self.0);
+        ("stopped ", number, ": ", words, "\n").show(t)
+    }
 }
 
 // Why the head stopped, in README's words.
-pub fn put_words(t: Text, why: Stop) -> Text
-    ensures { result ≡ added t (words_of why) }
-{
-    match why {
-        Stop::UnknownType => text::put_all(t, b"the record's type is 6 or above"),
-        Stop::HeaderBit => text::put_all(t, b"bit 7 or bit 2 of a header is set"),
-        Stop::Command => text::put_all(t, b"the command is not allowed now, or unknown"),
-        Stop::BodyLength => text::put_all(t, b"the command has another body length"),
-        Stop::Digest => text::put_all(t, b"the program's digest is not allowed"),
-        Stop::ProgramSize => text::put_all(
-            t,
-            b"the size of the program in flash is 0, over the slot or over the RAM",
-        ),
+#[derive(Clone, Copy)]
+pub struct Words(pub Stop);
+
+impl Show for Words {
+    ghost words = { λ w. words_of w.0 };
+
+    fn show(&self, t: &mut Text) {
+        match self.0 {
+            Stop::UnknownType => "the record's type is 6 or above",
+            Stop::HeaderBit => "bit 7 or bit 2 of a header is set",
+            Stop::Command => "the command is not allowed now, or unknown",
+            Stop::BodyLength => "the command has another body length",
+            Stop::Digest => "the program's digest is not allowed",
+            Stop::ProgramSize => {
+                "the size of the program in flash is 0, over the slot or over the RAM"
+            }
+        }
+        .show(t)
     }
 }
 
 // The line of a start.
-fn start_line(t: Text, size: u32, cdi: [u8; 32]) -> Text
-    ensures { result ≡ added t (start_line size cdi) }
-{
-    let sized = text::put_decimal(text::put_all(t, b"started, "), size as u64);
-    let named = text::put_all(sized, b" bytes, CDI ");
-    text::put(text::put_hex(named, &cdi), b'\n')
+#[derive(Clone, Copy)]
+struct Started(Start);
+
+#[tactic(auto, unfolding(crate::specs::Shown::start_line))]
+impl Show for Started {
+    ghost words = { λ s. start_line s.0.size s.0.cdi };
+
+    fn show(&self, t: &mut Text) {
+        let cdi = Hex(&self.0.cdi);
+        ("started, ", self.0.size, " bytes, CDI ", cdi, "\n").show(t)
+    }
 }
 
 // The line of a refused call.
-fn refusal_line(why: Refusal) -> Text
-    ensures { result ≡ text_of (refusal_line why) }
-{
-    let t = text::put_all(text::empty(), b"refused ");
-    text::put(
-        text::put_decimal(t, head::refusal_number(why) as u64),
-        b'\n',
-    )
+#[derive(Clone, Copy)]
+struct Refused(Refusal);
+
+impl Show for Refused {
+    ghost words = { λ r. refusal_line r.0 };
+
+    fn show(&self, t: &mut Text) {
+        let number = u8::from(self.0);
+        write!(t, "refused {number}\n")
+    }
 }
