@@ -10,18 +10,15 @@ use native.Mathlib.Omega.{arith}
 use lib.Dec.{eqb, ltb}
 use lib.ListN.{length, get_or}
 use borrow.Author.Tests.{eq-eqb, eqb-true, eqb-false, lt-ltb, ltb-true, ltb-false}
+use Rattle.std.specs.Prelude.{Option, Some, None}
 use Rattle.endian.proofs.Cases.{impossible}
 use Rattle.framing.specs.Header.{index_of, length_of, code_of, Fields, fields, bad, fields_at, Reading, good, stop, as_command, header_at, Writing, byte, refused, header_byte, reply_body_len, is_good, body_len, in_field, frame_id, endpoint, length_code}
 use Rattle.framing.specs.Answers.{status_number, reading_of, fields_of, writing_of}
 use Rattle.framing.specs.Theorems.{Headers, bit}
 use Rattle.framing.specs.declared.Header.{Header}
-use Rattle.framing.specs.declared.Header.TheVariants.{Good, Bad}
 use Rattle.framing.specs.declared.ReplyHeader.{ReplyHeader}
-use Rattle.framing.specs.declared.ReplyHeader.TheVariants as reply
 use Rattle.framing.specs.declared.Status.{Status}
 use Rattle.framing.specs.declared.Status.TheVariants as status
-use Rattle.framing.specs.declared.Written.{Written}
-use Rattle.framing.specs.declared.Written.TheVariants.{Byte, Refused}
 
 -- what stands at the place of n in a list that has it is n
 indexed : (n : ℕ) (xs : List ℕ) → index_of n xs < length xs → get_or xs (index_of n xs) 0 ≡ n
@@ -108,6 +105,9 @@ module _ (id ep n s : ℕ) where
       go true false z w p q r t = g (λ h. let o = ltb-false ep 4 q in omega arith)
       go true true false w p q r t = g (λ h. let o = ltb-false (code_of n) 4 r in omega arith)
       go true true true false p q r t = g (λ h. let o = ltb-false s 2 t in omega arith)
+
+  pub no_room : ((id < 4) × (ep < 4) × (code_of n < 4) × (s < 2) → ⊥) → refused 11 ≡ header_byte id ep n s
+  no_room h = by_fields (λ (x : Writing). refused 11 ≡ x) (λ hi he hc hs. absurd (h (hi, he, hc, hs))) (λ g. refl)
 
 module _ (b : ℕ) where
   -- a byte is read by its bit 7
@@ -228,20 +228,37 @@ headers = record {
     same_status status.Bad status.Good p = absurd (omega arith)
     same_status status.Bad status.Bad p = refl
 
-    same_reading : (x y : Header) → reading_of x ≡ reading_of y → x ≡ y
-    same_reading (Good a b c) (Good d e f) p = cc
-    same_reading (Good a b c) Bad p = cc
-    same_reading Bad (Good a b c) p = cc
-    same_reading Bad Bad p = refl
+    header : {i j e f l m : ℕ} → i ≡ j → e ≡ f → l ≡ m
+        → ◌≡◌ {A = Option Header} (Some (record { id = i; endpoint = e; len = l })) (Some (record { id = j; endpoint = f; len = m }))
+    header p q r = rw (p, q, r)
 
-    same_reply : (x y : ReplyHeader) → fields_of x ≡ fields_of y → x ≡ y
-    same_reply (reply.Good a b c s) (reply.Good d e f t) p = let q = same_status s t cc in cc
-    same_reply (reply.Good a b c s) reply.Bad p = cc
-    same_reply reply.Bad (reply.Good a b c s) p = cc
-    same_reply reply.Bad reply.Bad p = refl
+    same_reading : (x y : Option Header) → reading_of x ≡ reading_of y → x ≡ y
+    same_reading (Some x) (Some y) p =
+        let i : x.id ≡ y.id = cc in
+        let e : x.endpoint ≡ y.endpoint = cc in
+        let l : x.len ≡ y.len = cc in
+        header i e l
+    same_reading (Some x) None p = cc
+    same_reading None (Some y) p = cc
+    same_reading None None p = refl
 
-    same_writing : (x y : Written) → writing_of x ≡ writing_of y → x ≡ y
-    same_writing (Byte a) (Byte b) p = cc
-    same_writing (Byte a) Refused p = cc
-    same_writing Refused (Byte a) p = cc
-    same_writing Refused Refused p = refl
+    reply : {i j e f l m : ℕ} {s t : Status} → i ≡ j → e ≡ f → l ≡ m → s ≡ t → ◌≡◌ {A = Option ReplyHeader}
+        (Some (record { id = i; endpoint = e; len = l; status = s })) (Some (record { id = j; endpoint = f; len = m; status = t }))
+    reply p q r o = rw (p, q, r, o)
+
+    same_reply : (x y : Option ReplyHeader) → fields_of x ≡ fields_of y → x ≡ y
+    same_reply (Some x) (Some y) p =
+        let i : x.id ≡ y.id = cc in
+        let e : x.endpoint ≡ y.endpoint = cc in
+        let l : x.len ≡ y.len = cc in
+        let s : x.status ≡ y.status = same_status x.status y.status cc in
+        reply i e l s
+    same_reply (Some x) None p = cc
+    same_reply None (Some y) p = cc
+    same_reply None None p = refl
+
+    same_writing : (x y : Option ℕ) → writing_of x ≡ writing_of y → x ≡ y
+    same_writing (Some a) (Some b) p = cc
+    same_writing (Some a) None p = cc
+    same_writing None (Some b) p = cc
+    same_writing None None p = refl

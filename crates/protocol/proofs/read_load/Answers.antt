@@ -5,4 +5,4 @@ use Rattle.protocol.proofs.read_load.Goals as goal
 
 pub returns : goal.returns
 unfolding load_in word
-returns c = rw (c.uss_in.ensures, c.word.ensures)
+returns c = rw (c.part.ensures, c.word_at.ensures)
