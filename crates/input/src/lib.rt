@@ -2,21 +2,17 @@
 // failed.
 #![tactic(auto)]
 
+mod command;
+
 ghost use Rattle.std.specs.Prelude.{◌≡◌, ◌≤◌, length, IfOk};
 
+pub use command::{Command, Failure};
 use std::env::FillError;
 use std::fs::{File, OpenOptions};
 use std::io;
 use std::io::{Read, Write};
+use std::ops::ControlFlow;
 use std::rt::{Env, Files};
-
-// What reading a file gives.
-#[derive(Clone, Copy)]
-pub enum Contents {
-    // So many bytes.
-    Bytes(usize),
-    Unreadable(io::Error),
-}
 
 // errno where a call is given what there is not, and where a name is too long.
 const EINVAL: i32 = 22;
@@ -25,33 +21,11 @@ const ENAMETOOLONG: i32 = 36;
 
 // ---- room
 
-// 4,096 zeros, which hold the name of a file. The `ensures` says the length, so that what lends this does not count it again.
-pub fn buffer() -> [u8; 4096]
-    ensures { 4096 ≡ length result }
+// Zeros. The `ensures` says how many, so that what lends a large array does not count it again.
+pub fn zeros<const N: usize>() -> [u8; N]
+    ensures { N ≡ length result }
 {
-    [0; 4096]
-}
-
-// 65,536 zeros, for what is read in parts.
-pub fn large_buffer() -> [u8; 65536]
-    ensures { 65536 ≡ length result }
-{
-    [0; 65536]
-}
-
-// Room for a program: for one that is too long, so that it is refused and not cut, and for all that 278 blocks of a spool can hold, which a
-// reader asks for. The `ensures` says the length, so that what lends this does not count it again.
-pub fn program_room() -> [u8; 131216]
-    ensures { 131216 ≡ length result }
-{
-    [0; 131216]
-}
-
-// Room for a spool, with a byte more than the longest has.
-pub fn spool_room() -> [u8; 142337]
-    ensures { 142337 ≡ length result }
-{
-    [0; 142337]
+    [0; N]
 }
 
 // ---- files
@@ -71,26 +45,22 @@ pub fn open_place<R: Files + Alloc>(rt: &R, place: usize) -> io::Result<R::File>
     File::open(rt, path)
 }
 
-// Reads the file that argument i names so into buf, to its end or as much as there is room for. A read that fails and the end of a file look
-// alike to read_full, so one more read tells.
-pub fn read<R: Files + Alloc>(rt: &R, i: usize, name: &[u8], buf: &mut [u8]) -> Contents {
-    match open(rt, i, name) {
-        Ok(mut file) => read_open(&mut file, buf),
-        Err(e) => Contents::Unreadable(e),
-    }
+// Reads the file that argument i names so into buf, to its end or as much as there is room for, and answers how many bytes that is.
+pub fn read<R: Files + Alloc>(rt: &R, i: usize, name: &[u8], buf: &mut [u8]) -> io::Result<usize>
+    ensures { IfOk result (λ n. n ≤ length buf.new) }
+{
+    read_open(&mut open(rt, i, name)?, buf)
 }
 
-fn read_open<F: Read>(file: &mut F, buf: &mut [u8]) -> Contents {
+// A read that fails and the end of a file look alike to read_full, so one more read tells.
+fn read_open<F: Read>(file: &mut F, buf: &mut [u8]) -> io::Result<usize>
+    ensures { IfOk result (λ n. n ≤ length buf.new) }
+{
     let n = read_full(file, buf);
-    if n < buf.len() {
-        let mut more = [0u8; 1];
-        match file.read(&mut more) {
-            Ok(0) => {}
-            Ok(_) => return Contents::Unreadable(io::Error::from_raw_os_error(0)),
-            Err(e) => return Contents::Unreadable(e),
-        }
+    if n < buf.len() && file.read(&mut [0])? != 0 {
+        return Err(io::Error::from_raw_os_error(0));
     }
-    Contents::Bytes(n)
+    Ok(n)
 }
 
 // Reads until buf is full, the input ends or a read fails, and answers how many bytes it put at the start of buf.
@@ -107,29 +77,64 @@ pub fn read_full<F: Read>(file: &mut F, buf: &mut [u8]) -> usize
     done
 }
 
+// The bytes that come next; what does not come is zeros.
+pub fn read_array<const N: usize, F: Read>(file: &mut F) -> [u8; N] {
+    let mut bytes = zeros();
+    read_full(file, &mut bytes);
+    bytes
+}
+
+// The number in the four bytes that come next, lowest first.
+pub fn read_number<F: Read>(file: &mut F) -> u32 {
+    u32::from_le_bytes(read_array(file))
+}
+
+// Reads a file in parts and hands over each, to the file's end or until that breaks with a value. A proved loop has to end, and nothing says
+// that a file does, so the turns are counted from a number that no file uses up: a turn takes at least one byte, and 2^64 are too many.
+pub fn read_parts<F: Read, B, H: FnMut(&[u8]) -> ControlFlow<B>>(
+    file: &mut F,
+    mut hand_over: H,
+) -> io::Result<ControlFlow<B>>
+    requires { H.IsAlwaysCallable hand_over }
+{
+    let mut buf = zeros::<65536>();
+    for _ in 0..u64::MAX {
+        let n = file.read(&mut buf)?;
+        if n == 0 {
+            break;
+        }
+        if let ControlFlow::Break(b) = hand_over(&buf[..n]) {
+            return Ok(ControlFlow::Break(b));
+        }
+    }
+    Ok(ControlFlow::Continue(()))
+}
+
 // ---- arguments
 
 // Whether there is an argument i.
 pub fn is_given(rt: &impl Env, i: usize) -> bool {
-    let mut first = [0u8; 1];
-    match rt.arg(i, &mut first) {
-        Err(FillError::NotPresent) => false,
-        _ => true,
-    }
+    !matches!(rt.arg(i, &mut [0]), Err(FillError::NotPresent))
 }
 
-// Puts argument i into the room: its length, or why it is no name of a file.
-pub fn name_at(rt: &impl Env, i: usize, room: &mut [u8; 4096]) -> io::Result<usize>
+// Puts argument i into the room: the name of a file, or why it is none.
+pub fn name_at<'a>(rt: &impl Env, i: usize, room: &'a mut [u8; 4096]) -> io::Result<&'a [u8]> {
+    let n = fill(rt, i, room)?;
+    Ok(&room[..n])
+}
+
+fn fill(rt: &impl Env, i: usize, room: &mut [u8; 4096]) -> io::Result<usize>
     ensures { IfOk result (λ n. n ≤ 4096) }
 {
-    match rt.arg(i, room) {
-        Ok(n) => Ok(n),
-        Err(FillError::TooLong) => Err(io::Error::from_raw_os_error(ENAMETOOLONG)),
-        Err(FillError::NotPresent) => Err(io::Error::from_raw_os_error(EINVAL)),
-    }
+    rt.arg(i, room).map_err(|why| {
+        io::Error::from_raw_os_error(match why {
+            FillError::TooLong => ENAMETOOLONG,
+            FillError::NotPresent => EINVAL,
+        })
+    })
 }
 
-// The argument i as a number; the script has seen to it that it is one.
+// The argument i as a number, of at most eight digits; the script has seen to it that it is one.
 pub fn number_at(rt: &impl Env, i: usize) -> u32 {
     let mut digits = [0u8; 8];
     match rt.arg(i, &mut digits) {
@@ -138,64 +143,36 @@ pub fn number_at(rt: &impl Env, i: usize) -> u32 {
     }
 }
 
-// The number that digits say, of at most eight.
-fn number_in(s: &[u8]) -> u32 {
-    let mut number: u32 = 0;
-    let mut i: usize = 0;
-    while i < s.len() {
-        if 9999999 < number {
-            return number;
-        }
-        number = number * 10 + digit(s[i]);
-        i += 1;
-    }
-    number
+fn number_in(digits: &[u8]) -> u32 {
+    digits.iter().fold(0, |n: u32, b| {
+        let digit = char::from(*b).to_digit(10).unwrap_or(0);
+        n.saturating_mul(10).saturating_add(digit)
+    })
 }
 
-fn digit(b: u8) -> u32
-    ensures { result ≤ 9 }
+// ---- what is given
+
+// Runs a program and gives its number, 0 where it does not fail, on descriptor 3: that is opened before anything else is, which could take
+// its place. Where the number cannot be written there is nobody to tell.
+pub fn run<R: Files, E: Into<u32>, F: FnOnce(&R) -> Result<(), E>>(rt: &R, program: F)
+    requires { F.IsAlwaysCallable program }
 {
-    if b < 48 {
-        return 0;
-    }
-    if 57 < b {
-        return 0;
-    }
-    b as u32 - 48
+    let mut place = open_number(rt);
+    let number = match program(rt) {
+        Ok(()) => 0,
+        Err(why) => why.into(),
+    };
+    give_number(&mut place, number);
 }
 
-// ---- what is given and said
-
-// Opens descriptor 3, where the number of a program goes; it is opened before anything else is, which could take its place.
+// Opens descriptor 3, where the number of a program goes.
 pub fn open_number<R: Files>(rt: &R) -> io::Result<R::File> {
     OpenOptions::new().write(true).open(rt, "/proc/self/fd/3")
 }
 
-// Gives the number of a program. Where it cannot be written there is nobody to tell.
+// Gives the number of a program.
 pub fn give_number<F: Write>(place: &mut io::Result<F>, number: u32) {
     if let Ok(file) = place {
         let _ = write!(file, "{number}");
-    }
-}
-
-// Says of something why it failed, as errno does: a line. Where it cannot be written there is nobody to tell.
-pub fn fail<W: Write>(rt: &impl AllocGlobal, to: &mut W, what: &[u8], why: io::Error) {
-    if let Ok(said) = format!(in rt.alloc(); "{why}") {
-        let _ = write_line(to, what, without_number(said.as_str()));
-    }
-}
-
-fn write_line<W: Write>(to: &mut W, what: &[u8], why: &str) -> io::Result<()> {
-    to.write_all(what)?;
-    to.write_all(b": ")?;
-    to.write_all(why.as_bytes())?;
-    to.write_all(b"\n")
-}
-
-// The words of an error, before its number.
-fn without_number(said: &str) -> &str {
-    match said.split_once(" (os error ") {
-        Some((words, _)) => words,
-        None => said,
     }
 }

@@ -1,0 +1,112 @@
+// What a command says on standard error of what failed. Where that cannot be written there is nobody to tell.
+ghost use Rattle.std.specs.Prelude.{◌≤◌, length, IfOk};
+
+use super::zeros;
+use std::io;
+use std::io::Write;
+use text::Text;
+
+// The words of a command.
+#[derive(Clone, Copy)]
+pub struct Command {
+    // Its name, which each line begins with.
+    pub name: &'static [u8],
+    // What stands before the reason why a file cannot be read.
+    pub unreadable: &'static [u8],
+}
+
+// Why a command ends early; that was said.
+#[derive(Clone, Copy)]
+pub enum Failure {
+    // Not all could be written to standard output.
+    Output,
+    // A file cannot be read, or is not taken.
+    File,
+}
+
+// The exit status.
+impl From<Failure> for u32 {
+    fn from(why: Failure) -> u32 {
+        match why {
+            Failure::Output => 1,
+            Failure::File => 3,
+        }
+    }
+}
+
+impl Command {
+    // Puts the name of the file in argument i into the room.
+    pub fn name_at<'a>(
+        self,
+        rt: &HostRuntime,
+        i: usize,
+        room: &'a mut [u8; 4096],
+    ) -> Result<&'a [u8], Failure> {
+        match super::fill(rt, i, room) {
+            Ok(n) => Ok(&room[..n]),
+            Err(why) => Err(self.fail(rt, room, why)),
+        }
+    }
+
+    // Reads the file that argument i names into buf, to its end or as much as there is room for, and answers how many bytes that is.
+    pub fn read(self, rt: &HostRuntime, i: usize, buf: &mut [u8]) -> Result<usize, Failure>
+        ensures { IfOk result (λ n. n ≤ length buf.new) }
+    {
+        let mut room = zeros();
+        let name = self.name_at(rt, i, &mut room)?;
+        super::read(rt, i, name, buf).map_err(|why| self.fail(rt, name, why))
+    }
+
+    // Says of a file that it cannot be read, and why, as errno does.
+    pub fn fail(self, rt: &HostRuntime, file: &[u8], why: io::Error) -> Failure {
+        self.begin_line(rt, file);
+        let _ = rt.stderr().write_all(self.unreadable);
+        write_why(rt, &mut rt.stderr(), why);
+        Failure::File
+    }
+
+    // Says of a file why it is not taken.
+    pub fn refuse(self, rt: &HostRuntime, file: &[u8], why: Text) -> Failure {
+        self.begin_line(rt, file);
+        let _ = text::write(&mut rt.stderr(), why);
+        let _ = rt.stderr().write_all(b"\n");
+        Failure::File
+    }
+
+    // Says why the file that argument i names is not taken.
+    pub fn refuse_at(self, rt: &HostRuntime, i: usize, why: Text) -> Failure {
+        let mut room = zeros();
+        let file = super::name_at(rt, i, &mut room).unwrap_or(b"");
+        self.refuse(rt, file, why)
+    }
+
+    // Says why not all could be written to standard output.
+    pub fn fail_output(self, rt: &HostRuntime, why: io::Error) -> Failure {
+        self.begin_line(rt, b"standard output");
+        write_why(rt, &mut rt.stderr(), why);
+        Failure::Output
+    }
+
+    fn begin_line(self, rt: &HostRuntime, file: &[u8]) {
+        let _ = rt.stderr().write_all(self.name);
+        let _ = rt.stderr().write_all(b": ");
+        let _ = rt.stderr().write_all(file);
+        let _ = rt.stderr().write_all(b": ");
+    }
+}
+
+// The rest of a line: why something failed, as errno does.
+fn write_why<W: Write>(rt: &impl AllocGlobal, to: &mut W, why: io::Error) {
+    if let Ok(said) = format!(in rt.alloc(); "{why}") {
+        let _ = to.write_all(without_number(said.as_str()).as_bytes());
+        let _ = to.write_all(b"\n");
+    }
+}
+
+// The words of an error, before its number.
+fn without_number(said: &str) -> &str {
+    match said.split_once(" (os error ") {
+        Some((words, _)) => words,
+        None => said,
+    }
+}
