@@ -16,7 +16,7 @@ pub struct Command {
 }
 
 // Why a command ends early; that was said.
-#[derive(Clone, Copy)]
+#[derive(Clone, Copy, Debug, PartialEq, Eq)]
 pub enum Failure {
     // Not all could be written to standard output.
     Output,
@@ -31,6 +31,22 @@ impl From<Failure> for u32 {
             Failure::Output => 1,
             Failure::File => 3,
         }
+    }
+}
+
+// The failure of a command whose exit status is 1 for all of them.
+#[derive(Clone, Copy, Debug, PartialEq, Eq)]
+pub struct Undone;
+
+impl From<Failure> for Undone {
+    fn from(_why: Failure) -> Undone {
+        Undone
+    }
+}
+
+impl From<Undone> for u32 {
+    fn from(_why: Undone) -> u32 {
+        1
     }
 }
 
@@ -80,11 +96,13 @@ impl Command {
         self.refuse(rt, file, why)
     }
 
-    // Says why not all could be written to standard output.
-    pub fn fail_output(self, rt: &HostRuntime, why: io::Error) -> Failure {
-        self.begin_line(rt, b"standard output");
-        write_why(rt, &mut rt.stderr(), why);
-        Failure::Output
+    // Where not all could be written to standard output, that is said.
+    pub fn written(self, rt: &HostRuntime, all: io::Result<()>) -> Result<(), Failure> {
+        all.map_err(|why| {
+            self.begin_line(rt, b"standard output");
+            write_why(rt, &mut rt.stderr(), why);
+            Failure::Output
+        })
     }
 
     fn begin_line(self, rt: &HostRuntime, file: &[u8]) {

@@ -6,7 +6,7 @@ mod command;
 
 ghost use Rattle.std.specs.Prelude.{◌≡◌, ◌≤◌, length, IfOk};
 
-pub use command::{Command, Failure};
+pub use command::{Command, Failure, Undone};
 use std::env::FillError;
 use std::fs::{File, OpenOptions};
 use std::io;

@@ -7,26 +7,13 @@ mod hash;
 mod image;
 mod small;
 
+use blake2s::Context;
+
 fn main(rt: HostRuntime) {
-    let mut left = read_count(&rt);
-    let mut context = hash::none();
-    while 0 < left {
-        let c = read_call(&rt);
-        let more = hash::call(&rt, context, c);
-        context = more;
-        small::call(&rt, c);
-        left = left - 1;
+    let mut context = Context::default();
+    for _ in 0..input::read_number(&mut rt.stdin()) {
+        let call = input::read_array(&mut rt.stdin());
+        hash::call(&rt, &mut context, &call);
+        small::call(&rt, &call);
     }
-}
-
-fn read_count(rt: &HostRuntime) -> u32 {
-    let mut b = [0u8; 4];
-    input::read_full(&mut rt.stdin(), &mut b);
-    endian::word(b[0], b[1], b[2], b[3])
-}
-
-fn read_call(rt: &HostRuntime) -> [u8; 320] {
-    let mut c = [0u8; 320];
-    input::read_full(&mut rt.stdin(), &mut c);
-    c
 }
