@@ -2,44 +2,31 @@
 
 // How many bytes a load of this size has; no more than the longest has.
 pub fn length(size: u32) -> usize {
-    if 131072 < size {
-        return 133386;
-    }
-    129 + (size as usize + 126) / 127 * 129
+    129 + size.min(131072).div_ceil(127) as usize * 129
 }
 
 // Writes the frames.
 pub fn fill(size: u32, out: &mut [u8]) {
-    let mut i: usize = 0;
-    while i < out.len() {
-        out[i] = byte(size, i);
-        i = i + 1;
+    for (i, b) in out.iter_mut().enumerate() {
+        *b = byte(size, i);
     }
 }
 
 // Byte i of the frames.
 fn byte(size: u32, i: usize) -> u8 {
-    let at = i % 129;
-    if at == 0 {
-        return 0x13;
+    match (i / 129, i % 129) {
+        (_, 0) => 0x13,
+        (0, at) => load_byte(size, at),
+        (_, 1) => 0x05,
+        (k, at) => program_byte((k - 1) * 127 + (at - 2)),
     }
-    if i < 129 {
-        return load_byte(size, at);
-    }
-    if at == 1 {
-        return 0x05;
-    }
-    program_byte((i / 129 - 1) * 127 + (at - 2))
 }
 
 // Byte i of the load, its header counted: the command, the size, the flag, and what the user secret and the ignored bytes hold.
 fn load_byte(size: u32, i: usize) -> u8 {
     match i {
         1 => 0x03,
-        2 => endian::byte(size, 0),
-        3 => endian::byte(size, 1),
-        4 => endian::byte(size, 2),
-        5 => endian::byte(size, 3),
+        2..=5 => endian::byte(size, i - 2),
         6 => 1,
         _ => 0x5a,
     }

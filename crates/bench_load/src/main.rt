@@ -4,18 +4,20 @@
 
 mod cable;
 mod frames;
-mod print;
+
+use text::{Hex, Text};
 
 fn main(rt: HostRuntime) {
-    let input = read_numbers(&rt);
-    let size = endian::word(input[0], input[1], input[2], input[3]);
-    let times = endian::word(input[4], input[5], input[6], input[7]);
-    print::report(&rt, size, cable::load_often(size, times));
+    let size = input::read_number(&mut rt.stdin());
+    let times = input::read_number(&mut rt.stdin());
+    report(&rt, size, cable::load_often(size, times));
 }
 
-// The eight bytes of the two numbers; those that do not come are zeros.
-fn read_numbers(rt: &HostRuntime) -> [u8; 8] {
-    let mut input = [0u8; 8];
-    input::read_full(&mut rt.stdin(), &mut input);
-    input
+// A line each; without a start the CDI is zeros. What cannot be written is lost: there is nobody to tell.
+fn report(rt: &HostRuntime, size: u32, loaded: cable::Loaded) {
+    let received = loaded.received;
+    let cdi = loaded.last.map_or([0; 32], |start| start.cdi);
+    let mut t = Text::new();
+    write!(t, "size {size}\nreceived {received}\ncdi {}\n", Hex(&cdi));
+    let _ = text::write(&mut rt.stdout(), t);
 }

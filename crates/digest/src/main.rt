@@ -8,6 +8,7 @@ use input::{Command, Undone};
 use std::io;
 use std::io::Read;
 use std::ops::ControlFlow;
+use text::{Hex, Text};
 
 const COMMAND: Command = Command {
     name: b"digest",
@@ -46,8 +47,8 @@ fn hash_file<F: Read>(rt: &HostRuntime, file: &mut F, name: &[u8]) -> Result<(),
 }
 
 // A part is refused only where the file has too many bytes.
-fn too_long() -> text::Text {
-    text::put_all(text::empty(), b"it has more than 4294967295 bytes")
+fn too_long() -> Text {
+    Text::of("it has more than 4294967295 bytes")
 }
 
 fn finish(rt: &HostRuntime, context: Context, name: &[u8]) -> Result<(), Undone> {
@@ -58,8 +59,8 @@ fn finish(rt: &HostRuntime, context: Context, name: &[u8]) -> Result<(), Undone>
 
 // Writes the line.
 fn print_line(rt: &HostRuntime, hash: [u8; 32], name: &[u8]) -> io::Result<()> {
-    let digits = text::put_hex(text::empty(), &hash);
-    text::write(&mut rt.stdout(), text::put_all(digits, b"  "))?;
+    let digits = Text::of(format_args!("{}  ", Hex(&hash)));
+    text::write(&mut rt.stdout(), digits)?;
     rt.stdout().write_all(name)?;
     rt.stdout().write_all(b"\n")
 }

@@ -1,5 +1,4 @@
 // The line: frames are sent, and what comes is told to `upload`.
-use client::Secret;
 use std::fs::{File, OpenOptions};
 use std::io;
 use std::io::{IsTerminal, Read, Write};
@@ -35,38 +34,35 @@ pub fn converse(
     line: &mut Line,
     program: &[u8],
     job: Job,
-    secret: Secret,
+    secret: Option<[u8; 32]>,
 ) -> Turn {
     let terminal = rt.stderr().is_terminal();
     let began = now(rt);
-    let mut t = upload::open(job);
-    let first = t.next;
-    let mut over = upload::is_over(first);
-    while !over {
-        let x = t.exchange;
-        let next = t.next;
-        let event = event(line, program, job, secret, x.k, next);
-        let u = upload::advance(job, x, event);
-        t = u;
-        let next = t.next;
-        over = upload::is_over(next);
-        show(rt, terminal, job.len, x.k, next, began);
+    let mut t = job.open();
+    while !t.next.is_over() {
+        let k = t.exchange.k;
+        if let Next::Send = t.next {
+            send(&mut line.output, program, job.id, secret, k);
+        }
+        let event = receive(&mut line.input);
+        t = job.advance(t.exchange, event);
+        if terminal {
+            show(rt, job.len, k, t.next, began);
+        }
     }
     t
 }
 
-// Sends frame k, if it is to be sent, and waits for what the line gives.
-fn event(line: &mut Line, program: &[u8], job: Job, secret: Secret, k: u32, next: Next) -> Event {
-    if let Next::Send = next {
-        send(&mut line.output, program, job.id, secret, k);
-    }
-    receive(&mut line.input)
-}
-
 // A frame that cannot be sent gets no answer, or the line is closed: `receive` tells.
-fn send(output: &mut io::Result<File>, program: &[u8], id: u8, secret: Secret, k: u32) {
+fn send(
+    output: &mut io::Result<File>,
+    program: &[u8],
+    id: u8,
+    secret: Option<[u8; 32]>,
+    k: u32,
+) {
     let mut room = [0u8; 129];
-    client::make_frame(program, id, secret, k, &mut room);
+    let _ = client::make_frame(program, id, secret, k, &mut room);
     if let Ok(file) = output {
         let _ = file.write_all(&room);
     }
@@ -85,53 +81,31 @@ fn receive(input: &mut File) -> Event {
 // ---- progress
 
 // After the reply to frame k so many blocks are done. The line is ended with the load, if there is one: before the first reply there is not.
-fn show(rt: &HostRuntime, terminal: bool, len: usize, k: u32, next: Next, began: u64) {
-    if !terminal {
-        return;
-    }
+fn show(rt: &HostRuntime, len: usize, k: u32, next: Next, began: u64) {
     match next {
-        Next::Wait => {}
         Next::Send => show_progress(rt, len, k, began),
-        Next::Loaded => {
+        Next::Over(Ok(())) => {
             show_progress(rt, len, k, began);
-            let _ = rt.stderr().write_all(b"\n");
+            end_line(rt);
         }
-        Next::Failed(_) => {
-            if 0 < k {
-                let _ = rt.stderr().write_all(b"\n");
-            }
-        }
+        Next::Over(Err(_)) if 0 < k => end_line(rt),
+        _ => {}
     }
 }
 
 fn show_progress(rt: &HostRuntime, len: usize, done: u32, began: u64) {
-    let _ = text::write(
-        &mut rt.stderr(),
-        messages::progress(len, done, since(rt, began)),
-    );
+    let seconds = now(rt).saturating_sub(began);
+    let _ = text::write(&mut rt.stderr(), messages::progress(len, done, seconds));
 }
 
-// In seconds; 0 where the system does not know.
+fn end_line(rt: &HostRuntime) {
+    let _ = rt.stderr().write_all(b"\n");
+}
+
+// In seconds; 0 where the system does not know, and of a time before the count begins.
 fn now(rt: &HostRuntime) -> u64 {
-    match SystemTime::now(rt) {
-        Ok(t) => seconds(t),
-        Err(_) => 0,
-    }
-}
-
-// The seconds of a time; 0 of one before the count begins.
-fn seconds(t: SystemTime) -> u64 {
-    match t.duration_since(UNIX_EPOCH) {
-        Ok(d) => d.as_secs(),
-        Err(_) => 0,
-    }
-}
-
-// The seconds since a time; 0 where a clock was set back.
-fn since(rt: &HostRuntime, began: u64) -> u64 {
-    let t = now(rt);
-    if t < began {
+    let Ok(t) = SystemTime::now(rt) else {
         return 0;
-    }
-    t - began
+    };
+    t.duration_since(UNIX_EPOCH).map_or(0, |d| d.as_secs())
 }

@@ -4,113 +4,94 @@
 // number goes to descriptor 3.
 #![tactic(auto)]
 
-mod files;
 mod line;
 
-use client::Secret;
-use input::Contents;
-use upload::{Failure, Job, Next, Turn};
+use input::Command;
+use upload::{Exchange, Job, Next, Turn};
+
+const COMMAND: Command = Command {
+    name: b"load",
+    unreadable: b"cannot be read: ",
+};
+
+// Why nothing is loaded, or a load is not told; that was said.
+#[derive(Clone, Copy)]
+enum Failure {
+    Input(input::Failure),
+    Upload(upload::Failure),
+}
+
+impl From<input::Failure> for Failure {
+    fn from(why: input::Failure) -> Failure {
+        Failure::Input(why)
+    }
+}
+
+// The exit status.
+impl From<Failure> for u32 {
+    fn from(why: Failure) -> u32 {
+        match why {
+            Failure::Input(why) => u32::from(why),
+            Failure::Upload(why) => u32::from(why),
+        }
+    }
+}
 
 fn main(rt: HostRuntime) {
-    let mut place = input::open_number(&rt);
-    let number = run(&rt);
-    input::give_number(&mut place, number);
+    input::run(&rt, run);
 }
 
 // The arguments are the names of the device and of the program, the frame ID, the ticks to wait, 0 if only the files are looked at, and the
-// name of the secret's file if there is one. Answers the exit status.
-fn run(rt: &HostRuntime) -> u32 {
-    let mut name = input::buffer();
-    match input::name_at(rt, 2, &mut name) {
-        Err(why) => files::fail(rt, &name, why),
-        Ok(n) => read(rt, &name[..n]),
-    }
-}
-
-fn read(rt: &HostRuntime, name: &[u8]) -> u32 {
-    let mut program = [0u8; 131073];
-    match input::read(rt, 2, name, &mut program) {
-        Contents::Unreadable(why) => files::fail(rt, name, why),
-        Contents::Bytes(len) => begin(rt, name, endian::first(&program, len)),
-    }
-}
-
-// The program is read: looks at what is to be loaded before anything else.
-fn begin(rt: &HostRuntime, name: &[u8], program: &[u8]) -> u32 {
-    let job = upload::job_of(
-        program,
-        files::id(input::number_at(rt, 3)),
-        input::number_at(rt, 4),
-    );
-    let t = upload::open(job);
-    let next = t.next;
-    if upload::is_over(next) {
-        return conclude(rt, name, job, t);
-    }
-    with_secret(rt, program, job)
-}
-
-// Reads the user secret, if there is one, and loads.
-fn with_secret(rt: &HostRuntime, program: &[u8], job: Job) -> u32 {
-    if !input::is_given(rt, 6) {
-        return load(rt, program, job, files::no_secret());
-    }
-    let mut name = input::buffer();
-    match input::name_at(rt, 6, &mut name) {
-        Err(why) => files::fail(rt, &name, why),
-        Ok(n) => read_secret(rt, &name[..n], program, job),
-    }
-}
-
-fn read_secret(rt: &HostRuntime, name: &[u8], program: &[u8], job: Job) -> u32 {
-    let mut file = [0u8; 33];
-    match input::read(rt, 6, name, &mut file) {
-        Contents::Unreadable(why) => files::fail(rt, name, why),
-        Contents::Bytes(len) => {
-            if len != 32 {
-                return files::say(rt, name, job, upload::open(job), Failure::SecretLength);
-            }
-            load(rt, program, job, files::secret_in(file))
-        }
-    }
-}
-
-// Loads, and says how it went.
-fn load(rt: &HostRuntime, program: &[u8], job: Job, secret: Secret) -> u32 {
+// name of the secret's file if there is one. What is to be loaded is looked at before anything else. A number that is no frame ID is 4,
+// which no frame has.
+fn run(rt: &HostRuntime) -> Result<(), Failure> {
+    let mut room = input::zeros::<131073>();
+    let n = COMMAND.read(rt, 2, &mut room)?;
+    let program = &room[..n];
+    let id = input::number_at(rt, 3).min(4) as u8;
+    let job = Job::new(program, id, input::number_at(rt, 4));
+    conclude(rt, 2, job, job.open())?;
+    let secret = secret(rt, job)?;
     if input::number_at(rt, 5) == 0 {
-        return 0;
+        return Ok(());
     }
-    let mut name = input::buffer();
-    let n = input::name_at(rt, 1, &mut name).unwrap_or(0);
-    load_over(rt, &name[..n], program, job, secret)
+    load(rt, program, job, secret)
 }
 
-// Loads over the device of this name.
-fn load_over(rt: &HostRuntime, name: &[u8], program: &[u8], job: Job, secret: Secret) -> u32 {
-    match line::open(rt) {
-        None => files::say(rt, name, job, upload::open(job), Failure::Device),
-        Some(mut line) => {
-            let t = line::converse(rt, &mut line, program, job, secret);
-            conclude(rt, name, job, t)
-        }
+// The user secret, if there is one.
+fn secret(rt: &HostRuntime, job: Job) -> Result<Option<[u8; 32]>, Failure> {
+    if !input::is_given(rt, 6) {
+        return Ok(None);
     }
+    let mut file = [0u8; 33];
+    if COMMAND.read(rt, 6, &mut file)? != 32 {
+        return Err(refuse(rt, 6, job, job.open().exchange, upload::Failure::SecretLength));
+    }
+    Ok(Some(endian::part(&file, 0)))
 }
 
-// The last words: of the load, or of its failure.
-fn conclude(rt: &HostRuntime, name: &[u8], job: Job, t: Turn) -> u32 {
-    let next = t.next;
-    match next {
-        Next::Failed(why) => files::say(rt, name, job, t, why),
-        _ => tell(rt, job),
-    }
-}
-
-// The lines of a load. The head has the program, also where they cannot be written; then that is said.
-fn tell(rt: &HostRuntime, job: Job) -> u32 {
-    if let Err(why) = text::write(&mut rt.stdout(), messages::loaded(job)) {
-        input::fail(rt, &mut rt.stderr(), b"load: standard output", why);
-        return 1;
-    }
+// Loads, and says how it went. The head has the program, also where the lines of a load cannot be written; then that is said.
+fn load(rt: &HostRuntime, program: &[u8], job: Job, secret: Option<[u8; 32]>) -> Result<(), Failure> {
+    let Some(mut line) = line::open(rt) else {
+        return Err(refuse(rt, 1, job, job.open().exchange, upload::Failure::Device));
+    };
+    let t = line::converse(rt, &mut line, program, job, secret);
+    conclude(rt, 1, job, t)?;
+    COMMAND.written(rt, text::write(&mut rt.stdout(), messages::loaded(job)))?;
     let _ = text::write(&mut rt.stderr(), messages::started());
-    0
+    Ok(())
+}
+
+// The last words of a load that fails.
+fn conclude(rt: &HostRuntime, i: usize, job: Job, t: Turn) -> Result<(), Failure> {
+    match t.next {
+        Next::Over(Err(why)) => Err(refuse(rt, i, job, t.exchange, why)),
+        _ => Ok(()),
+    }
+}
+
+// Says of the file or the device that argument i names why nothing is loaded.
+fn refuse(rt: &HostRuntime, i: usize, job: Job, x: Exchange, why: upload::Failure) -> Failure {
+    COMMAND.refuse_at(rt, i, messages::message(job, x, why));
+    Failure::Upload(why)
 }

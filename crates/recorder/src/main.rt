@@ -58,7 +58,7 @@ fn make<F: Read>(call: &mut F) -> Result<[u8; 256], Refusal> {
 
 // ./record makes no call that is refused.
 fn refuse(rt: &HostRuntime, why: Refusal) -> Undone {
-    let _ = text::write(&mut rt.stderr(), words::refusal(u32::from(why)));
+    let _ = text::write(&mut rt.stderr(), words::refusal(why));
     Undone
 }
 

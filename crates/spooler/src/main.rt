@@ -4,169 +4,149 @@
 // program has no exit status: its number goes to descriptor 3, where the script ./spool reads it.
 #![tactic(auto)]
 
-mod files;
 mod mending;
 mod words;
 
-use input::Contents;
-use spool::Answer;
+use input::Command;
+use spool::Refusal;
 use std::io;
 use text::Text;
 
-// The exit status where a block is bad, or lost.
-const BAD_BLOCK: u32 = 4;
+const COMMAND: Command = Command {
+    name: b"spool",
+    unreadable: b"cannot be read: ",
+};
+
+// Room for a program: for one that is too long, so that it is refused and not cut, and for all that 278 blocks of a spool can hold, which a
+// reader asks for.
+const PROGRAM_ROOM: usize = 131216;
+
+// Room for a spool, with a byte more than the longest has.
+const SPOOL_ROOM: usize = 142337;
+
+// Why a task is not done; that was said.
+#[derive(Clone, Copy)]
+enum Failure {
+    Input(input::Failure),
+    // A block is bad, or lost.
+    Block,
+}
+
+impl From<input::Failure> for Failure {
+    fn from(why: input::Failure) -> Failure {
+        Failure::Input(why)
+    }
+}
+
+// The exit status.
+impl From<Failure> for u32 {
+    fn from(why: Failure) -> u32 {
+        match why {
+            Failure::Input(why) => u32::from(why),
+            Failure::Block => 4,
+        }
+    }
+}
 
 fn main(rt: HostRuntime) {
-    let mut place = input::open_number(&rt);
-    let number = run(&rt);
-    input::give_number(&mut place, number);
+    input::run(&rt, run);
 }
 
-// Answers the exit status.
-fn run(rt: &HostRuntime) -> u32 {
-    let mut task = input::buffer();
-    let n = input::name_at(rt, 1, &mut task).unwrap_or(0);
-    perform(rt, endian::first(&task, n))
-}
-
-fn perform(rt: &HostRuntime, task: &[u8]) -> u32 {
-    if endian::equal(task, b"write") {
-        return write(rt);
+fn run(rt: &HostRuntime) -> Result<(), Failure> {
+    let mut room = input::zeros();
+    match input::name_at(rt, 1, &mut room).unwrap_or(b"") {
+        b"write" => write(rt),
+        b"read" => read(rt),
+        b"check" => check(rt),
+        _ => mending::salvage(rt),
     }
-    if endian::equal(task, b"read") {
-        return read(rt);
-    }
-    if endian::equal(task, b"check") {
-        return check(rt);
-    }
-    mending::salvage(rt)
 }
 
 // ---- a program written
 
-fn write(rt: &HostRuntime) -> u32 {
-    let mut file = input::program_room();
-    match files::read(rt, 2, &mut file) {
-        Contents::Unreadable(_) => files::BAD_FILE,
-        Contents::Bytes(n) => write_spool(rt, endian::first(&file, n)),
+fn write(rt: &HostRuntime) -> Result<(), Failure> {
+    let mut file = input::zeros::<PROGRAM_ROOM>();
+    let n = COMMAND.read(rt, 2, &mut file)?;
+    let program = &file[..n];
+    let mut room = input::zeros::<SPOOL_ROOM>();
+    match spool::write(program, &mut room) {
+        Err(why) => Err(refuse(rt, why)),
+        Ok(len) => deliver(rt, endian::first(&room, len), line(len, program)),
     }
 }
 
-fn write_spool(rt: &HostRuntime, program: &[u8]) -> u32 {
-    let mut room = input::spool_room();
-    let done = spool::write(program, &mut room);
-    let answer = done.answer;
-    let Answer::Accepted = answer else {
-        files::refuse(rt, 2, words::refusal(answer));
-        return files::BAD_FILE;
-    };
-    deliver(rt, endian::first(&room, done.len), line(done.len, program))
+// Says what is wrong with the file.
+fn refuse(rt: &HostRuntime, why: Refusal) -> Failure {
+    COMMAND.refuse_at(rt, 2, words::refusal(why)).into()
 }
 
 // ---- a spool read
 
-fn read(rt: &HostRuntime) -> u32 {
-    let mut file = input::spool_room();
-    match files::read(rt, 2, &mut file) {
-        Contents::Unreadable(_) => files::BAD_FILE,
-        Contents::Bytes(n) => read_program(rt, endian::first(&file, n)),
+fn read(rt: &HostRuntime) -> Result<(), Failure> {
+    let mut file = input::zeros::<SPOOL_ROOM>();
+    let n = COMMAND.read(rt, 2, &mut file)?;
+    let bytes = &file[..n];
+    let mut room = input::zeros::<PROGRAM_ROOM>();
+    match spool::read(bytes, &mut room) {
+        Err(why) => {
+            let refused = COMMAND.refuse_at(rt, 2, spool_words::refusal(bytes));
+            Err(failure(why, refused))
+        }
+        Ok(len) => {
+            let program = endian::first(&room, len);
+            deliver(rt, program, line(n, program))
+        }
     }
 }
 
-fn read_program(rt: &HostRuntime, bytes: &[u8]) -> u32 {
-    let mut room = input::program_room();
-    let done = spool::read(bytes, &mut room);
-    let answer = done.answer;
-    let Answer::Accepted = answer else {
-        files::refuse(rt, 2, spool_words::refusal(bytes));
-        return status(answer);
-    };
-    let program = endian::first(&room, done.len);
-    deliver(rt, program, line(bytes.len(), program))
-}
-
-// The exit status of a spool that does not read: a bad length is the file's, all else a block's.
-fn status(answer: Answer) -> u32 {
-    if let Answer::SpoolLength = answer {
-        return files::BAD_FILE;
+// Of a spool that does not read: a bad length is the file's, all else a block's.
+fn failure(why: Refusal, refused: input::Failure) -> Failure {
+    match why {
+        Refusal::SpoolLength => Failure::Input(refused),
+        _ => Failure::Block,
     }
-    BAD_BLOCK
 }
 
 // ---- a spool checked
 
-fn check(rt: &HostRuntime) -> u32 {
-    let mut file = input::spool_room();
-    match files::read(rt, 2, &mut file) {
-        Contents::Unreadable(_) => files::BAD_FILE,
-        Contents::Bytes(n) => check_spool(rt, endian::first(&file, n)),
-    }
-}
-
 // The program is read only for its digest.
-fn check_spool(rt: &HostRuntime, bytes: &[u8]) -> u32 {
-    let mut room = input::program_room();
-    let done = spool::read(bytes, &mut room);
-    let answer = done.answer;
-    match answer {
-        Answer::Accepted => {
-            let line = line(bytes.len(), endian::first(&room, done.len));
-            written(rt, text::write(&mut rt.stdout(), line))
-        }
-        Answer::SpoolLength => {
-            files::refuse(rt, 2, words::refusal(answer));
-            files::BAD_FILE
-        }
-        _ => list_bad(rt, bytes),
+fn check(rt: &HostRuntime) -> Result<(), Failure> {
+    let mut file = input::zeros::<SPOOL_ROOM>();
+    let n = COMMAND.read(rt, 2, &mut file)?;
+    let bytes = &file[..n];
+    let mut room = input::zeros::<PROGRAM_ROOM>();
+    match spool::read(bytes, &mut room) {
+        Ok(len) => print(rt, line(n, endian::first(&room, len))),
+        Err(Refusal::SpoolLength) => Err(refuse(rt, Refusal::SpoolLength)),
+        Err(_) => list_bad(rt, bytes),
     }
 }
 
 // A line for each bad block.
-fn list_bad(rt: &HostRuntime, bytes: &[u8]) -> u32 {
+fn list_bad(rt: &HostRuntime, bytes: &[u8]) -> Result<(), Failure> {
     for i in 0..bytes.len() / 512 {
-        let answer = spool::look(bytes, i);
-        let listed = list_block(rt, i, answer);
-        if listed.is_err() {
-            return written(rt, listed);
+        if let Err(why) = spool::look(bytes, i) {
+            print(rt, words::bad(i, why))?;
         }
     }
-    BAD_BLOCK
-}
-
-// Says what is to be said of a block; of a good one that is nothing.
-fn list_block(rt: &HostRuntime, place: usize, answer: Answer) -> io::Result<()> {
-    if let Answer::Accepted = answer {
-        return Ok(());
-    }
-    text::write(&mut rt.stdout(), words::bad(place, answer))
+    Err(Failure::Block)
 }
 
 // ---- what is written
 
 // Of a program, and a spool of so many bytes.
 fn line(len: usize, program: &[u8]) -> Text {
-    let key = [0u8; 0];
-    let mut digest = [0u8; 32];
-    let _ = blake2s::hash(&key, program, &mut digest);
-    words::line(len / 512, program.len(), digest)
+    words::line(len / 512, program.len(), blake2s::digest(program))
 }
 
 // Bytes to standard output, and then their line to standard error.
-fn deliver(rt: &HostRuntime, bytes: &[u8], line: Text) -> u32 {
-    let number = written(rt, rt.stdout().write_all(bytes));
-    if number == 0 {
-        let _ = text::write(&mut rt.stderr(), line);
-    }
-    number
+fn deliver(rt: &HostRuntime, bytes: &[u8], line: Text) -> Result<(), Failure> {
+    COMMAND.written(rt, rt.stdout().write_all(bytes))?;
+    let _ = text::write(&mut rt.stderr(), line);
+    Ok(())
 }
 
-// The exit status, by whether all was written to standard output.
-fn written(rt: &HostRuntime, all: io::Result<()>) -> u32 {
-    match all {
-        Ok(()) => 0,
-        Err(why) => {
-            input::fail(rt, &mut rt.stderr(), b"spool: standard output", why);
-            1
-        }
-    }
+fn print(rt: &HostRuntime, line: Text) -> Result<(), Failure> {
+    COMMAND.written(rt, text::write(&mut rt.stdout(), line))?;
+    Ok(())
 }

@@ -1,157 +1,114 @@
 // A damaged spool is salvaged with the blocks of other files, and what became of it is said.
-ghost use Rattle.std.specs.Prelude.{◌<◌, ◌≡◌, length};
+ghost use Rattle.std.specs.Prelude.{◌≤◌, length, IfOk};
 
-use super::{files, words};
-use input::Contents;
-use spool::Answer;
+use super::{COMMAND, Failure, PROGRAM_ROOM, SPOOL_ROOM, words};
+use spool::{Fate, Refusal};
+use text::Text;
 
-// What salvage reports of a block.
-const KEPT: u8 = 0;
+// Room for the spares: a byte more than there may be, so that too many are refused and not cut.
+const SPARES_ROOM: usize = 4194305;
 
-const REPLACED: u8 = 1;
-
-const LOST: u8 = 2;
-
-pub fn salvage(rt: &HostRuntime) -> u32 {
-    let mut file = input::spool_room();
-    match files::read(rt, 2, &mut file) {
-        Contents::Unreadable(_) => files::BAD_FILE,
-        Contents::Bytes(n) => {
-            if 142336 < n {
-                return refuse(rt, Answer::SpoolLength);
-            }
-            with_spares(rt, &mut file[..n])
-        }
+pub fn salvage(rt: &HostRuntime) -> Result<(), Failure> {
+    let mut file = input::zeros::<SPOOL_ROOM>();
+    let n = COMMAND.read(rt, 2, &mut file)?;
+    if 142336 < n {
+        return Err(super::refuse(rt, Refusal::SpoolLength));
     }
+    with_spares(rt, &mut file[..n])
 }
 
-// Says what is wrong with the spool.
-fn refuse(rt: &HostRuntime, answer: Answer) -> u32 {
-    files::refuse(rt, 2, words::refusal(answer));
-    files::BAD_FILE
+fn with_spares(rt: &HostRuntime, bytes: &mut [u8]) -> Result<(), Failure> {
+    let mut room = input::zeros::<SPARES_ROOM>();
+    let n = read_spares(rt, &mut room)?;
+    mend(rt, bytes, &room[..n])
 }
 
 // ---- the spares
 
-// A byte more than there may be, so that too many are refused and not cut. The `ensures` says the length, so that what lends this does not
-// count it again.
-fn spares_room() -> [u8; 4194305]
-    ensures { 4194305 ≡ length result }
+// Reads the files behind the spool's, one behind the other, and answers how many bytes they are.
+fn read_spares(rt: &HostRuntime, room: &mut [u8]) -> Result<usize, Failure>
+    ensures { IfOk result (λ n. n ≤ length room.new) }
 {
-    [0; 4194305]
-}
-
-fn with_spares(rt: &HostRuntime, bytes: &mut [u8]) -> u32 {
-    let mut room = spares_room();
-    let n = read_spares(rt, &mut room);
-    if 4194304 < n {
-        return files::BAD_FILE;
-    }
-    mend(rt, bytes, endian::first(&room, n))
-}
-
-// Reads the files behind the spool's, one behind the other, and answers how many bytes they are; as many as there is room for, where one is
-// not taken, and that was said.
-fn read_spares(rt: &HostRuntime, room: &mut [u8]) -> usize {
-    let mut at: usize = 0;
+    let mut at = 0;
     for i in 3..usize::MAX {
-        if !input::is_given(rt, i) || room.len() <= at {
-            return at;
+        if !input::is_given(rt, i) {
+            break;
         }
-        at = read_more(rt, i, room, at);
+        at += read_more(rt, i, &mut room[at..])?;
     }
-    at
+    Ok(at)
 }
 
-// Reads the file that argument i names behind so many bytes, and answers how many they are then.
-fn read_more(rt: &HostRuntime, i: usize, room: &mut [u8], at: usize) -> usize
-    requires { at < length room.old }
+// Reads the file that argument i names, and answers how many bytes it has.
+fn read_more(rt: &HostRuntime, i: usize, room: &mut [u8]) -> Result<usize, Failure>
+    ensures { IfOk result (λ n. n ≤ length room.new) }
 {
-    let most = room.len();
-    let Contents::Bytes(n) = files::read(rt, i, &mut room[at..]) else {
-        return most;
-    };
-    if most - at <= n {
-        files::refuse(rt, i, words::too_many());
-        return most;
+    let n = COMMAND.read(rt, i, room)?;
+    if room.len() <= n {
+        return Err(COMMAND.refuse_at(rt, i, words::too_many()).into());
     }
     if n % 512 != 0 {
-        files::refuse(rt, i, words::spares_length());
-        return most;
+        return Err(COMMAND.refuse_at(rt, i, words::spares_length()).into());
     }
-    at + n
+    Ok(n)
 }
 
 // ---- the spool mended
 
-fn mend(rt: &HostRuntime, bytes: &mut [u8], spares: &[u8]) -> u32 {
+fn mend(rt: &HostRuntime, bytes: &mut [u8], spares: &[u8]) -> Result<(), Failure> {
     let mut report = [0u8; 278];
-    let answer = spool::salvage(bytes, spares, &mut report);
-    let Answer::Accepted = answer else {
-        return refuse(rt, answer);
-    };
-    let all = rt.stdout().write_all(bytes);
-    if all.is_err() {
-        return super::written(rt, all);
-    }
+    spool::salvage(bytes, spares, &mut report).map_err(|why| super::refuse(rt, why))?;
+    COMMAND.written(rt, rt.stdout().write_all(bytes))?;
     tell(rt, bytes, endian::first(&report, bytes.len() / 512))
 }
 
 // What became of the blocks. The mended spool is written before it, also where blocks are lost, so that another salvage can go on from there.
-fn tell<'a>(rt: &HostRuntime, bytes: &'a [u8], report: &'a [u8]) -> u32 {
-    let replaced = count(report, REPLACED);
-    let lost = count(report, LOST);
-    let counts = words::counts(count(report, KEPT), replaced, lost);
-    let _ = text::write(&mut rt.stderr(), counts);
+fn tell(rt: &HostRuntime, bytes: &[u8], report: &[u8]) -> Result<(), Failure> {
+    let replaced = count(report, Fate::Replaced);
+    let lost = count(report, Fate::Lost);
+    say(rt, words::counts(count(report, Fate::Kept), replaced, lost));
     list(rt, bytes, report);
     if lost != 0 {
         if replaced != 0 {
-            let _ = text::write(&mut rt.stderr(), words::compare_later());
+            say(rt, words::compare_later());
         }
-        return super::BAD_BLOCK;
+        return Err(Failure::Block);
     }
     if replaced != 0 {
-        tell_digest(rt, bytes);
+        say_digest(rt, bytes);
+        say(rt, words::compare());
     }
-    0
+    Ok(())
 }
 
-// How many blocks have this entry.
-fn count(report: &[u8], entry: u8) -> usize {
-    let mut n: usize = 0;
-    for found in report {
-        if *found == entry {
-            n += 1;
+// How many blocks have this fate.
+fn count(report: &[u8], fate: Fate) -> usize {
+    report.iter().filter(|entry| **entry == u8::from(fate)).count()
+}
+
+// A line for each block that is not kept. A lost block is as it was, so a look at it tells its fault.
+fn list(rt: &HostRuntime, bytes: &[u8], report: &[u8]) {
+    for (place, entry) in report.iter().enumerate() {
+        match Fate::try_from(*entry) {
+            Ok(Fate::Replaced) => say(rt, words::replaced(place)),
+            Ok(Fate::Lost) => {
+                if let Err(why) = spool::look(bytes, place) {
+                    say(rt, words::lost(place, why));
+                }
+            }
+            _ => {}
         }
-    }
-    n
-}
-
-// A line for each block that is not kept.
-fn list<'a>(rt: &HostRuntime, bytes: &'a [u8], report: &'a [u8]) {
-    for i in 0..report.len() {
-        list_block(rt, bytes, i, report[i]);
-    }
-}
-
-// A lost block is as it was, so a look at it tells its fault.
-fn list_block(rt: &HostRuntime, bytes: &[u8], place: usize, entry: u8) {
-    if entry == REPLACED {
-        let _ = text::write(&mut rt.stderr(), words::replaced(place));
-    }
-    if entry == LOST {
-        let _ = text::write(
-            &mut rt.stderr(),
-            words::lost(place, spool::look(bytes, place)),
-        );
     }
 }
 
 // The spool reads now: its line.
-fn tell_digest(rt: &HostRuntime, bytes: &[u8]) {
-    let mut room = input::program_room();
-    let done = spool::read(bytes, &mut room);
-    let line = super::line(bytes.len(), endian::first(&room, done.len));
+fn say_digest(rt: &HostRuntime, bytes: &[u8]) {
+    let mut room = input::zeros::<PROGRAM_ROOM>();
+    if let Ok(len) = spool::read(bytes, &mut room) {
+        say(rt, super::line(bytes.len(), endian::first(&room, len)));
+    }
+}
+
+fn say(rt: &HostRuntime, line: Text) {
     let _ = text::write(&mut rt.stderr(), line);
-    let _ = text::write(&mut rt.stderr(), words::compare());
 }

@@ -1,9 +1,0 @@
--- What is used is within what was looked at.
-use Rattle.std.proofs.Common.{length, ◌-◌, ◌≤◌}
-use Rattle.recorder.proofs.words.used.Given as goal
-
-abbrev pub invariant-loop-i : goal.invariant-loop-i
-invariant-loop-i l = l.n ≤ l.i
-
-abbrev pub decreases-loop-i : goal.decreases-loop-i
-decreases-loop-i l = length l.«data» - l.i
