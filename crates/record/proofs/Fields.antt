@@ -1,6 +1,6 @@
 -- A field of four bytes as a number.
 use mathlib.Core.Path.{◌≡◌, sym, ap, ◌∙◌}
-use mathlib.Core.List.{List, [], ◌∷◌, ◌++◌, append-nil}
+use mathlib.Core.List.{List, ◌++◌, append-nil}
 use Prim.Native.Nat.{ℕ, ◌+◌, ◌<◌}
 use native.Mathlib.Nat.{add-zero}
 use native.Mathlib.Omega.{arith}
@@ -10,10 +10,9 @@ use Rattle.endian.specs.Endian.{word}
 use Rattle.endian.specs.Lists.{padded}
 use Rattle.endian.proofs.Lists.{drop_replicate}
 
-pub word_at : (l : List ℕ) (f : ℕ)
-    → word (take 4 (drop f l)) 0 ≡ word (get_or l f 0 ∷ get_or l (f + 1) 0 ∷ get_or l (f + 2) 0 ∷ get_or l (f + 3) 0 ∷ []) 0
+pub word_in : (l : List ℕ) (f : ℕ) → word (take 4 (drop f l)) 0 ≡ word l f
 unfolding word
-word_at l f =
+word_in l f =
     let g : (i : ℕ) → i < 4 → get_or (take 4 (drop f l)) i 0 ≡ get_or l (f + i) 0 = λ i h. get_or-take 4 (drop f l) i 0 h ∙ get_or-drop f l i 0 in
     rw (g 0 (omega arith), g 1 (omega arith), g 2 (omega arith), g 3 (omega arith), add-zero)
 

@@ -10,6 +10,7 @@ use native.Mathlib.Omega.{arith}
 use lib.Dec.{eqb}
 use lib.ListN.{length, take, drop, length-append, length-drop}
 use lib.Seq.{take_at, drop_at, take-append-le, drop-append-le}
+use Rattle.std.specs.Prelude as code
 use Rattle.endian.specs.Lists.{same, zeros}
 use Rattle.endian.proofs.Cases.{impossible}
 use Rattle.endian.proofs.Same.{same_exactly}
@@ -18,28 +19,29 @@ use Rattle.record.specs.Types.{one_of}
 use Rattle.record.specs.Theorems.{Records}
 use Rattle.record.specs.declared.Digests.{Digests}
 use Rattle.record.specs.declared.ResetType.{ResetType}
-use Rattle.record.specs.declared.ResetType.TheVariants.{Flash0, Flash1, Flash0Ver, Flash1Ver, Client, ClientVer, Unknown}
+use Rattle.record.specs.declared.ResetType.TheVariants.{Flash0, Flash1, Flash0Ver, Flash1Ver, Client, ClientVer}
 
 -- the type of a number
-abbrev type_with : Option ℕ → ResetType
+abbrev type_with : Option ℕ → code.Option ResetType
 type_with (some n) =
-    cond (eqb n 0) Flash0
+    code.Some
+    (cond (eqb n 0) Flash0
     (cond (eqb n 1) Flash1
     (cond (eqb n 2) Flash0Ver
     (cond (eqb n 3) Flash1Ver
-    (cond (eqb n 4) Client ClientVer))))
-type_with none = Unknown
+    (cond (eqb n 4) Client ClientVer)))))
+type_with none = code.None
 
-type_back : (x : ResetType) → type_with (type_number x) ≡ x
-type_back Flash0 = refl
-type_back Flash1 = refl
-type_back Flash0Ver = refl
-type_back Flash1Ver = refl
-type_back Client = refl
-type_back ClientVer = refl
-type_back Unknown = refl
+type_back : (x : code.Option ResetType) → type_with (type_number x) ≡ x
+type_back (code.Some Flash0) = refl
+type_back (code.Some Flash1) = refl
+type_back (code.Some Flash0Ver) = refl
+type_back (code.Some Flash1Ver) = refl
+type_back (code.Some Client) = refl
+type_back (code.Some ClientVer) = refl
+type_back code.None = refl
 
-same_type : (x y : ResetType) → type_number x ≡ type_number y → x ≡ y
+same_type : (x y : code.Option ResetType) → type_number x ≡ type_number y → x ≡ y
 same_type x y e = sym (type_back x) ∙ ap type_with e ∙ type_back y
 
 -- the part of n bytes after p

@@ -1,6 +1,6 @@
--- The calls give the fields; the type and the mask are numbers of four bytes (`word_at`).
+-- The calls give the fields; the type and the mask are numbers of four bytes (`word_in`).
 use Rattle.record.specs.Record.{record_at}
-use Rattle.record.proofs.Fields.{word_at}
+use Rattle.record.proofs.Fields.{word_in}
 use Rattle.record.proofs.read.Goals as goal
 
 pub returns : goal.returns
@@ -10,9 +10,10 @@ returns c =
     rw (
       c.part.ensures,
       c.digests_in.ensures,
-      c.word-mask.ensures,
-      c.type_of-reset_type.ensures,
-      c.word.ensures,
-      word_at l 0,
-      word_at l 4,
+      c.word_at-mask.ensures,
+      c.ok.ensures.value,
+      c.try_from.ensures,
+      c.word_at.ensures,
+      word_in l 0,
+      word_in l 4,
     )
