@@ -5,6 +5,7 @@ use mathlib.Core.Path.{◌≡◌, refl, sym, ap, ◌∙◌}
 use mathlib.Core.Logic.{◌⊎◌, inl, inr, ⊎_elim}
 use mathlib.Core.List.{List, []}
 use native.Mathlib.Omega.{arith}
+use Rattle.std.specs.Prelude.{Result as Tried, Ok, Err}
 use lib.ListN.{length, take, drop, length-append, length-drop}
 use lib.Seq.{take_at, drop_at, length-take-le}
 use lib.Dec.{eqb}
@@ -14,12 +15,12 @@ use Rattle.endian.proofs.Cases.{impossible}
 use Rattle.rfc7693.specs.Rfc7693.{blake2s}
 use Rattle.protocol.specs.Commands.{length_ok}
 use Rattle.head.specs.State.{is_whole, in_range, live, idle, ended}
-use Rattle.head.specs.Answers.{Report, refused, continues, whole, stopped, started, refusal_number, stop_number, report_of, Gathering, Result, Outcome}
+use Rattle.head.specs.Answers.{Report, refused, continues, whole, stopped, started, refusal_number, stop_number, reported, cdi_in, digest_in, Gathering, Result, Outcome}
 use Rattle.head.specs.Start.{unstarted, ending, starting}
 use Rattle.head.specs.Begin.{Slot, Flash, program_in, fits as fitting, begin_refusal, beginning}
 use Rattle.head.specs.Gather.{gather_refusal, with_incoming, gathered}
 use Rattle.head.specs.Act.{act_refusal, refusing, acted}
-use Rattle.head.specs.Theorems.{HeadTheorems, with_uds, with_cdi, changed}
+use Rattle.head.specs.Theorems.{bare_of, given_by, HeadTheorems, with_uds, with_cdi, changed}
 use Rattle.head.proofs.Ranges.{never, by_test, fit_facts, range_facts, is_in_range, ram_ok}
 use Rattle.head.proofs.Admitted.{act_admitted}
 use Rattle.head.proofs.Ways.{begun_with, by_secret, begin_called, by_begin, by_gather, Writes, called, by_words, act_called, by_act}
@@ -38,7 +39,7 @@ use Rattle.head.specs.declared.Refusal.TheVariants.{StateRange, Ended, ReplyRoom
 use Rattle.head.specs.declared.Stop.{Stop}
 use Rattle.head.specs.declared.Stop.TheVariants.{UnknownType, HeaderBit, Command, BodyLength, Digest, ProgramSize}
 use Rattle.head.specs.declared.Answer.{Answer}
-use Rattle.head.specs.declared.Answer.TheVariants.{Refused, Continue, Whole, Stopped, Started}
+use Rattle.head.specs.declared.Answer.TheVariants.{Continue, Whole, Stopped, Started}
 
 -- ---- the numbers settle the answer
 
@@ -78,38 +79,35 @@ stop_back BodyLength = refl
 stop_back Digest = refl
 stop_back ProgramSize = refl
 
-same_refusal : (x y : Refusal) → refusal_number x ≡ refusal_number y → x ≡ y
-same_refusal x y e = sym (refusal_back x) ∙ ap refusal_of e ∙ refusal_back y
+-- the answer that reports this, and gives the CDI c and the digest d where it is a start
+answer_of : Report → List ℕ → List ℕ → Tried Answer Refusal
+answer_of (refused k) c d = Err (refusal_of k)
+answer_of continues c d = Ok Continue
+answer_of whole c d = Ok Whole
+answer_of (stopped k) c d = Ok (Stopped (stop_of k))
+answer_of (started a n) c d = Ok (Started (record { address = a; size = n; cdi = c; digest = d }))
 
-same_stop : (x y : Stop) → stop_number x ≡ stop_number y → x ≡ y
-same_stop x y e = sym (stop_back x) ∙ ap stop_of e ∙ stop_back y
+answer_back : (x : Tried Answer Refusal) → answer_of (reported x) (given_by cdi_in x) (given_by digest_in x) ≡ x
+answer_back (Err r) = ap Err (refusal_back r)
+answer_back (Ok Continue) = refl
+answer_back (Ok Whole) = refl
+answer_back (Ok (Stopped s)) = ap (λ (k : Stop). Ok (Stopped k)) (stop_back s)
+answer_back (Ok (Started x)) = refl
 
-same_answer : (x y : Answer) → report_of x ≡ report_of y → x ≡ y
-same_answer (Refused x) (Refused y) e = ap Refused (same_refusal x y (cc))
-same_answer (Stopped x) (Stopped y) e = ap Stopped (same_stop x y (cc))
-same_answer (Started a n) (Started b m) e = cc
-same_answer Continue Continue e = refl
-same_answer Whole Whole e = refl
-same_answer (Refused x) Continue e = cc
-same_answer (Refused x) Whole e = cc
-same_answer (Refused x) (Stopped y) e = cc
-same_answer (Refused x) (Started b m) e = cc
-same_answer Continue (Refused y) e = cc
-same_answer Continue Whole e = cc
-same_answer Continue (Stopped y) e = cc
-same_answer Continue (Started b m) e = cc
-same_answer Whole (Refused y) e = cc
-same_answer Whole Continue e = cc
-same_answer Whole (Stopped y) e = cc
-same_answer Whole (Started b m) e = cc
-same_answer (Stopped x) (Refused y) e = cc
-same_answer (Stopped x) Continue e = cc
-same_answer (Stopped x) Whole e = cc
-same_answer (Stopped x) (Started b m) e = cc
-same_answer (Started a n) (Refused y) e = cc
-same_answer (Started a n) Continue e = cc
-same_answer (Started a n) Whole e = cc
-same_answer (Started a n) (Stopped y) e = cc
+bare_back : (x : Tried Answer Refusal) → answer_of (reported x) [] [] ≡ bare_of x
+bare_back (Err r) = ap Err (refusal_back r)
+bare_back (Ok Continue) = refl
+bare_back (Ok Whole) = refl
+bare_back (Ok (Stopped s)) = ap (λ (k : Stop). Ok (Stopped k)) (stop_back s)
+bare_back (Ok (Started x)) = refl
+
+same_answer : (x y : Tried Answer Refusal) → reported x ≡ reported y
+    → (bare_of x ≡ bare_of y) × (given_by cdi_in x ≡ given_by cdi_in y → given_by digest_in x ≡ given_by digest_in y → x ≡ y)
+same_answer x y e =
+    (sym (bare_back x) ∙ ap (λ (r : Report). answer_of r [] []) e ∙ bare_back y,
+      λ c d. sym (answer_back x) ∙ ap (λ (r : Report). answer_of r (given_by cdi_in x) (given_by digest_in x)) e
+        ∙ ap (λ (z : List ℕ). answer_of (reported y) z (given_by digest_in x)) c
+        ∙ ap (λ (z : List ℕ). answer_of (reported y) (given_by cdi_in y) z) d ∙ answer_back y)
 
 -- ---- the range
 

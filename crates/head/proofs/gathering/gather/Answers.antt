@@ -1,28 +1,20 @@
 -- A refusal is the number that admit_gather gives; otherwise the byte is taken.
-use mathlib.Core.Path.{◌≡◌, sym, ap, ◌∙◌}
-use Rattle.head.specs.Answers.{admission_number}
-use Rattle.head.specs.Gather.{gather_refusal}
-use Rattle.head.specs.declared.Admission.{Admission}
+use mathlib.Core.Path.{sym, ◌∙◌}
+use Rattle.std.proofs.lemmas.Result.{err_from_is_err_and}
 use Rattle.head.proofs.Ranges.{range_facts}
 use Rattle.head.proofs.Admitted.{gather_refused_as, gather_admitted_as, gather_admitted}
 use Rattle.head.proofs.gathering.gather.Goals as goal
 
 pub take-requires : goal.take-requires
 take-requires c =
-    let admission : (x : Admission) → c.admit_gather.result ≡ x → admission_number x ≡ gather_refusal c.args.s =
-    λ x. λ e. ap (λ (z : Admission). admission_number z) (sym e) ∙ c.admit_gather.ensures in
     let s = c.args.s in
-    let a = gather_admitted s (sym (admission _ c.in-Admitted.is)) in
+    let a = gather_admitted s (sym c.in_ok-admit_gather.ensures) in
     record { incoming_value = (range_facts s a.range).incoming; incoming_value_2 = a.unfinished }
 
-pub returns-in-Refused : goal.returns-in-Refused
-returns-in-Refused c =
-    let admission : (x : Admission) → c.admit_gather.result ≡ x → admission_number x ≡ gather_refusal c.args.s =
-    λ x. λ e. ap (λ (z : Admission). admission_number z) (sym e) ∙ c.admit_gather.ensures in
-    gather_refused_as c.args.s c.args.byte c.in-Refused.why (admission _ c.in-Refused.is)
+pub returns-in_err-admit_gather : goal.returns-in_err-admit_gather
+returns-in_err-admit_gather c =
+    let p = err_from_is_err_and c.from_residual.result c.from_residual.ensures.1 in
+    rw (p.1, p.2) (gather_refused_as c.args.s c.args.byte c.in_err-admit_gather.field-0.0 c.in_err-admit_gather.ensures)
 
-pub returns-in-Admitted : goal.returns-in-Admitted
-returns-in-Admitted c =
-    let admission : (x : Admission) → c.admit_gather.result ≡ x → admission_number x ≡ gather_refusal c.args.s =
-    λ x. λ e. ap (λ (z : Admission). admission_number z) (sym e) ∙ c.admit_gather.ensures in
-    c.take.ensures ∙ gather_admitted_as c.args.s c.args.byte (admission _ c.in-Admitted.is)
+pub returns : goal.returns
+returns c = c.take.ensures ∙ gather_admitted_as c.args.s c.args.byte c.in_ok-admit_gather.ensures

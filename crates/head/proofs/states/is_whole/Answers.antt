@@ -1,20 +1,29 @@
 -- The header decides; where it is good, endpoint and count are tested.
-use mathlib.Core.Path.{sym, ◌∙◌}
+use Prim.Native.Nat.{◌≤◌}
+use mathlib.Core.Path.{◌≡◌, sym, ◌∙◌}
+use native.Mathlib.Omega.{arith}
 use borrow.Author.Tests.{eq-eqb, ne_eqb}
-use Rattle.framing.proofs.Headers.{good_at, bad_at}
+use Rattle.endian.proofs.Cases.{impossible}
+use Rattle.framing.proofs.Headers.{good_at, bad_at, body_small}
+use Rattle.head.proofs.states.is_whole.Goals.{then-is_good, else-is_good}
 use Rattle.head.proofs.states.is_whole.Goals as goal
 
-pub returns-then-not-is_good : goal.returns-then-not-is_good
-returns-then-not-is_good c = let g = c.is_good in rw (bad_at _ (sym g.ensures ∙ c.if-not-is_good.true))
+pub overflow_add-result : goal.overflow_add-result
+overflow_add-result c =
+    let s = body_small c.args.header in
+    let e = c.body_len.ensures in
+    record { fits = omega arith }
 
-pub returns-then-endpoint-ne2 : goal.returns-then-endpoint-ne2
-returns-then-endpoint-ne2 c =
-    let e = c.endpoint in
-    let g = c.is_good in
-    rw (good_at _ (sym g.ensures ∙ c.if-not-is_good.false), ← e.ensures, ne_eqb _ _ c.if-endpoint-ne2.true)
+pub returns-then-endpoint-eq2 : goal.returns-then-endpoint-eq2
+returns-then-endpoint-eq2 c =
+    let v = c.if-endpoint-eq2.true in
+    elim c.if-is_good.branch
+    [ then-is_good w ↦ ?
+    | else-is_good w ↦ let z = sym w.value-is ∙ v in impossible cc ]
 
-pub returns : goal.returns
-returns c =
-    let e = c.endpoint in
-    let g = c.is_good in
-    rw (good_at _ (sym g.ensures ∙ c.if-not-is_good.false), ← e.ensures, eq-eqb _ _ c.if-endpoint-ne2.false, c.body_len.ensures)
+pub returns-else-endpoint-eq2 : goal.returns-else-endpoint-eq2
+returns-else-endpoint-eq2 c =
+    let v = c.if-endpoint-eq2.false in
+    elim c.if-is_good.branch
+    [ then-is_good w ↦ ?
+    | else-is_good w ↦ rw (bad_at _ (sym c.is_good.ensures ∙ w.if-is_good.false)) w.value-is ]
