@@ -80,7 +80,7 @@ stop_back Digest = refl
 stop_back ProgramSize = refl
 
 -- the answer that reports this, and gives the CDI c and the digest d where it is a start
-answer_of : Report → List ℕ → List ℕ → Tried Answer Refusal
+abbrev answer_of : Report → List ℕ → List ℕ → Tried Answer Refusal
 answer_of (refused k) c d = Err (refusal_of k)
 answer_of continues c d = Ok Continue
 answer_of whole c d = Ok Whole
