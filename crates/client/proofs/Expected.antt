@@ -11,9 +11,9 @@ use Rattle.endian.proofs.Cases.{impossible}
 use Rattle.framing.specs.Header.{code_of, fields_at}
 use Rattle.protocol.specs.Commands.{is_last}
 use Rattle.protocol.specs.Replies.{header_in, code_in, status_in}
-use Rattle.client.specs.Replies.{expected_reply, header_is, status_is, all_zero, filler_in, difference_in}
-use Rattle.client.specs.declared.Difference.TheVariants.{Nothing, Header, Length, Code, Status, Filler}
-use Rattle.client.specs.declared.replies.Expected.{Expected}
+use Rattle.std.specs.Prelude.{None, Some}
+use Rattle.client.specs.Replies.{Expected, expected_reply, header_is, status_is, all_zero, filler_in, difference_in}
+use Rattle.client.specs.declared.Difference.TheVariants.{Header, Length, Code, Status, Filler}
 
 -- code, status and digest are within the body
 pub record Fits (x : Expected) : Type 0 where
@@ -49,13 +49,13 @@ pub record Passes (x : Expected) (id : ℕ) (r : List ℕ) : Type 0 where
   pub status : status_is (fields_at (header_in r)) (status_in r) ≡ true
   pub filler : all_zero (filler_in x r) ≡ true
 
-pub passes : (x : Expected) (id : ℕ) (r : List ℕ) → difference_in x id r ≡ Nothing → Passes x id r
+pub passes : (x : Expected) (id : ℕ) (r : List ℕ) → difference_in x id r ≡ None → Passes x id r
 unfolding difference_in
 passes x id r = go _ _ _ _ _ refl refl refl refl refl
   where
     go : (a b c d e : Bool) → header_is (fields_at (header_in r)) id x.len ≡ a → eqb (length r) (1 + x.len) ≡ b → eqb (code_in r) x.code ≡ c
         → status_is (fields_at (header_in r)) (status_in r) ≡ d → all_zero (filler_in x r) ≡ e
-        → cond (not a) Header (cond (not b) Length (cond (not c) Code (cond (not d) Status (cond (not e) Filler Nothing)))) ≡ Nothing → Passes x id r
+        → cond (not a) (Some Header) (cond (not b) (Some Length) (cond (not c) (Some Code) (cond (not d) (Some Status) (cond (not e) (Some Filler) None)))) ≡ None → Passes x id r
     go false b c d e ea eb ec ed ee q = impossible cc
     go true false c d e ea eb ec ed ee q = impossible cc
     go true true false d e ea eb ec ed ee q = impossible cc
@@ -64,6 +64,6 @@ passes x id r = go _ _ _ _ _ refl refl refl refl refl
     go true true true true true ea eb ec ed ee q =
         record { header = ea; whole = eqb-true _ _ eb; code = eqb-true _ _ ec; status = ed; filler = ee }
 
-pub passed : (x : Expected) (id : ℕ) (r : List ℕ) → Passes x id r → difference_in x id r ≡ Nothing
+pub passed : (x : Expected) (id : ℕ) (r : List ℕ) → Passes x id r → difference_in x id r ≡ None
 unfolding difference_in
 passed x id r p = rw (p.header, eq-eqb _ _ p.whole, eq-eqb _ _ p.code, p.status, p.filler)

@@ -1,33 +1,12 @@
--- Numbers: what an answer or a difference that is another than the first has as its number, and what a call that is accepted was given.
+-- What a call that is accepted was given.
 use Prim.Native.Nat.{ℕ, ◌≤◌}
 use mathlib.Core.Path.{◌≡◌, refl}
 use mathlib.Core.Bool.{Bool, true, false, not, cond, ◌&&◌}
 use native.Mathlib.Omega.{arith}
-use lib.Dec.{eqb, leb, ltb}
+use lib.Dec.{leb, ltb}
 use borrow.Author.Tests.{leb-true, ltb-false}
 use Rattle.protocol.specs.Commands.{blocks_for}
-use Rattle.client.specs.Answers.{number_of, difference_number}
 use Rattle.client.specs.Frames.{refusal}
-use Rattle.client.specs.declared.Answer.{Answer}
-use Rattle.client.specs.declared.Answer.TheVariants.{Accepted, FrameRoom, ProgramLength, FrameId, FrameNumber, UnexpectedReply}
-use Rattle.client.specs.declared.Difference.{Difference}
-use Rattle.client.specs.declared.Difference.TheVariants.{Nothing, Header, Length, Code, Status, Filler}
-
-pub refused_number : (a : Answer) → (a ≡ Accepted → ⊥) → number_of a ≡ 0 → ⊥
-refused_number Accepted n e = n refl
-refused_number FrameRoom n e = omega arith
-refused_number ProgramLength n e = omega arith
-refused_number FrameId n e = omega arith
-refused_number FrameNumber n e = omega arith
-refused_number UnexpectedReply n e = omega arith
-
-pub differs_number : (d : Difference) → (d ≡ Nothing → ⊥) → eqb (difference_number d) 0 ≡ false
-differs_number Nothing n = absurd (n refl)
-differs_number Header n = refl
-differs_number Length n = refl
-differs_number Code n = refl
-differs_number Status n = refl
-differs_number Filler n = refl
 
 -- the program, the frame ID and the frame number of a call that is not refused
 pub record Given (n id k : ℕ) : Type 0 where

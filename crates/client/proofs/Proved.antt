@@ -20,58 +20,57 @@ use Rattle.protocol.specs.Commands.{firmware, blocks_for, is_last}
 use Rattle.protocol.specs.Replies.{written, reply_header, sent, header_in, status_in, load_reply, block_reply, digest_reply}
 use Rattle.endian.specs.Lists.{padded}
 use Rattle.protocol.proofs.Proved.{header_of}
+use Rattle.std.specs.Prelude.{Option, None, Some, Result, Ok, Err}
 use Rattle.client.specs.Answers.{number_of, difference_number}
-use Rattle.client.specs.Frames.{refusal, secret_of, command_header, size_bytes, load_body, block_body, command_body, command_frame}
-use Rattle.client.specs.Replies.{expected_reply, header_is, status_is, all_zero, digest_in, difference_in, Taking, taking_as, taken_as, refused_with, taking, differing}
+use Rattle.client.specs.Frames.{refusal, Secret, secret_of, command_header, size_bytes, load_body, block_body, command_body, command_frame}
+use Rattle.client.specs.Replies.{Expected, expected_reply, header_is, status_is, all_zero, digest_in, difference_in, Taking, taking_as, taken_as, refused_with, taking, differing}
 use Rattle.client.specs.Theorems.{Expects, Client}
 use Rattle.client.proofs.Numbers.{Given, given}
 use Rattle.client.proofs.Expected.{Fits, expected_fits, Passes, passes, passed}
 use Rattle.client.proofs.Zeros.{zeros_are, are_zeros}
-use Rattle.client.specs.declared.Answer.{Answer}
-use Rattle.client.specs.declared.Answer.TheVariants.{Accepted, FrameRoom, ProgramLength, FrameId, FrameNumber, UnexpectedReply}
+use Rattle.client.specs.declared.Refusal.{Refusal}
+use Rattle.client.specs.declared.Refusal.TheVariants.{FrameRoom, ProgramLength, FrameId, FrameNumber, UnexpectedReply}
 use Rattle.client.specs.declared.Difference.{Difference}
 use Rattle.client.specs.declared.Difference.TheVariants as difference
-use Rattle.client.specs.declared.Secret.{Secret}
-use Rattle.client.specs.declared.replies.Expected.{Expected}
 
 -- ---- numbers
 
-answer_of : ℕ → Answer
+answer_of : ℕ → Result (Unit {0}) Refusal
 answer_of n =
-    cond (eqb n 0) Accepted
-    (cond (eqb n 3) FrameRoom
-    (cond (eqb n 40) ProgramLength
-    (cond (eqb n 41) FrameId
-    (cond (eqb n 42) FrameNumber UnexpectedReply))))
+    cond (eqb n 0) (Ok tt)
+    (cond (eqb n 3) (Err FrameRoom)
+    (cond (eqb n 40) (Err ProgramLength)
+    (cond (eqb n 41) (Err FrameId)
+    (cond (eqb n 42) (Err FrameNumber) (Err UnexpectedReply)))))
 
-back : (a : Answer) → answer_of (number_of a) ≡ a
+back : (a : Result (Unit {0}) Refusal) → answer_of (number_of a) ≡ a
 unfolding answer_of
-back Accepted = refl
-back FrameRoom = refl
-back ProgramLength = refl
-back FrameId = refl
-back FrameNumber = refl
-back UnexpectedReply = refl
+back (Ok done) = refl
+back (Err FrameRoom) = refl
+back (Err ProgramLength) = refl
+back (Err FrameId) = refl
+back (Err FrameNumber) = refl
+back (Err UnexpectedReply) = refl
 
-difference_of : ℕ → Difference
-difference_of n =
-    cond (eqb n 0) difference.Nothing
-    (cond (eqb n 1) difference.Header
-    (cond (eqb n 2) difference.Length
-    (cond (eqb n 3) difference.Code
-    (cond (eqb n 4) difference.Status difference.Filler))))
+difference_at : ℕ → Option Difference
+difference_at n =
+    cond (eqb n 0) None
+    (cond (eqb n 1) (Some difference.Header)
+    (cond (eqb n 2) (Some difference.Length)
+    (cond (eqb n 3) (Some difference.Code)
+    (cond (eqb n 4) (Some difference.Status) (Some difference.Filler)))))
 
-difference_back : (d : Difference) → difference_of (difference_number d) ≡ d
-unfolding difference_of
-difference_back difference.Nothing = refl
-difference_back difference.Header = refl
-difference_back difference.Length = refl
-difference_back difference.Code = refl
-difference_back difference.Status = refl
-difference_back difference.Filler = refl
+difference_back : (d : Option Difference) → difference_at (difference_number d) ≡ d
+unfolding difference_at
+difference_back None = refl
+difference_back (Some difference.Header) = refl
+difference_back (Some difference.Length) = refl
+difference_back (Some difference.Code) = refl
+difference_back (Some difference.Status) = refl
+difference_back (Some difference.Filler) = refl
 
-same_difference : (x y : Difference) → difference_number x ≡ difference_number y → x ≡ y
-same_difference x y e = sym (difference_back x) ∙ ap difference_of e ∙ difference_back y
+same_difference : (x y : Option Difference) → difference_number x ≡ difference_number y → x ≡ y
+same_difference x y e = sym (difference_back x) ∙ ap difference_at e ∙ difference_back y
 
 not_refused : (n id k : ℕ) → Given n id k → refusal n id k ≡ 0
 unfolding refusal
@@ -195,7 +194,7 @@ module _ (x : Expected) (f : Fits x) (id : ℕ) (small : id ≤ 3) (r : List ℕ
   status_right : status_is (fields_at first) (status_number e.status) ≡ true
   status_right = rw (first_is, eq-eqb (status_number e.status) (status_number e.status) refl)
 
-  is_expected : difference_in x id r ≡ difference.Nothing
+  is_expected : difference_in x id r ≡ None
   is_expected =
       let l : suc (suc (suc (length tail))) ≡ 1 + x.len = (let t = tail_length in omega arith) in
       rw e.bytes
@@ -214,18 +213,18 @@ gives : (n id k : ℕ) (r : List ℕ) → refusal n id k ≡ 0 → (e : Expects 
     → taking n id k r ≡ taking_as 0 (status_number e.status) (padded 32 e.digest)
 gives n id k r z e = gives_as n id k r (expected_reply n k) refl z e
 
-differs : (n id k : ℕ) (r : List ℕ) → refusal n id k ≡ 0 → (differing n id k r ≡ difference.Nothing) ↔ ((taking n id k r).number ≡ 0)
+differs : (n id k : ℕ) (r : List ℕ) → refusal n id k ≡ 0 → (differing n id k r ≡ None) ↔ ((taking n id k r).number ≡ 0)
 unfolding differing taking
 differs n id k r z = rw z (by_difference (difference_in (expected_reply n k) id r))
   where
-    by_difference : (d : Difference)
-        → (d ≡ difference.Nothing) ↔ ((cond (eqb (difference_number d) 0) (taking_as 0 (get_or r 2 0) (digest_in (expected_reply n k) r)) (refused_with 43)).number ≡ 0)
-    by_difference difference.Nothing = (λ e. refl, λ e. refl)
-    by_difference difference.Header = (λ e. impossible cc, λ e. absurd (omega arith))
-    by_difference difference.Length = (λ e. impossible cc, λ e. absurd (omega arith))
-    by_difference difference.Code = (λ e. impossible cc, λ e. absurd (omega arith))
-    by_difference difference.Status = (λ e. impossible cc, λ e. absurd (omega arith))
-    by_difference difference.Filler = (λ e. impossible cc, λ e. absurd (omega arith))
+    by_difference : (d : Option Difference)
+        → (d ≡ None) ↔ ((cond (eqb (difference_number d) 0) (taking_as 0 (get_or r 2 0) (digest_in (expected_reply n k) r)) (refused_with 43)).number ≡ 0)
+    by_difference None = (λ e. refl, λ e. refl)
+    by_difference (Some difference.Header) = (λ e. impossible cc, λ e. absurd (omega arith))
+    by_difference (Some difference.Length) = (λ e. impossible cc, λ e. absurd (omega arith))
+    by_difference (Some difference.Code) = (λ e. impossible cc, λ e. absurd (omega arith))
+    by_difference (Some difference.Status) = (λ e. impossible cc, λ e. absurd (omega arith))
+    by_difference (Some difference.Filler) = (λ e. impossible cc, λ e. absurd (omega arith))
 
 pub not_refusal : (n id k : ℕ) (r : List ℕ) → (taking n id k r).number ≡ 0 → refusal n id k ≡ 0
 unfolding taking
@@ -250,16 +249,16 @@ taken_whole n id k r e =
     let p = taken_passes n id k r e in
     rw (header_is_fields (header_in r) id (expected_reply n k).len p.header) p.whole
 
-compared : (differing 1 1 0 [] ≡ difference.Header)
-    × (differing 1 1 0 (0x51 ∷ 0x06 ∷ 2 ∷ 1 ∷ []) ≡ difference.Header)
-    × (differing 1 1 0 (0x31 ∷ 0x06 ∷ 2 ∷ 1 ∷ []) ≡ difference.Length)
-    × (differing 1 1 0 (0x31 ∷ 0x06 ∷ 2 ∷ 1 ∷ 0 ∷ []) ≡ difference.Code)
-    × (differing 1 1 0 (0x31 ∷ 0x04 ∷ 2 ∷ 1 ∷ 0 ∷ []) ≡ difference.Status)
-    × (differing 1 1 0 (0x31 ∷ 0x04 ∷ 0 ∷ 1 ∷ 0 ∷ []) ≡ difference.Filler)
-    × (differing 1 1 0 (0x31 ∷ 0x04 ∷ 0 ∷ 0 ∷ 0 ∷ []) ≡ difference.Nothing)
-    × (differing 1 1 0 (0x35 ∷ 0x04 ∷ 1 ∷ 0 ∷ 0 ∷ []) ≡ difference.Nothing)
-    × (differing 1 1 0 (0x35 ∷ 0x04 ∷ 0 ∷ 0 ∷ 0 ∷ []) ≡ difference.Status)
-    × (differing 1 1 0 (0x31 ∷ 0x04 ∷ 1 ∷ 0 ∷ 0 ∷ []) ≡ difference.Status)
+compared : (differing 1 1 0 [] ≡ Some difference.Header)
+    × (differing 1 1 0 (0x51 ∷ 0x06 ∷ 2 ∷ 1 ∷ []) ≡ Some difference.Header)
+    × (differing 1 1 0 (0x31 ∷ 0x06 ∷ 2 ∷ 1 ∷ []) ≡ Some difference.Length)
+    × (differing 1 1 0 (0x31 ∷ 0x06 ∷ 2 ∷ 1 ∷ 0 ∷ []) ≡ Some difference.Code)
+    × (differing 1 1 0 (0x31 ∷ 0x04 ∷ 2 ∷ 1 ∷ 0 ∷ []) ≡ Some difference.Status)
+    × (differing 1 1 0 (0x31 ∷ 0x04 ∷ 0 ∷ 1 ∷ 0 ∷ []) ≡ Some difference.Filler)
+    × (differing 1 1 0 (0x31 ∷ 0x04 ∷ 0 ∷ 0 ∷ 0 ∷ []) ≡ None)
+    × (differing 1 1 0 (0x35 ∷ 0x04 ∷ 1 ∷ 0 ∷ 0 ∷ []) ≡ None)
+    × (differing 1 1 0 (0x35 ∷ 0x04 ∷ 0 ∷ 0 ∷ 0 ∷ []) ≡ Some difference.Status)
+    × (differing 1 1 0 (0x31 ∷ 0x04 ∷ 1 ∷ 0 ∷ 0 ∷ []) ≡ Some difference.Status)
 unfolding differing refusal difference_in fields_at
 compared = (refl, refl, refl, refl, refl, refl, refl, refl, refl, refl)
 
@@ -270,7 +269,7 @@ disagrees n id k r z d = rw z (go (eqb (difference_number (difference_in (expect
     go : (t : Bool) → eqb (difference_number (difference_in (expected_reply n k) id r)) 0 ≡ t
         → cond t (taking_as 0 (status_in r) (digest_in (expected_reply n k) r)) (refused_with 43) ≡ refused_with 43
     go true e =
-        let p = passes (expected_reply n k) id r (same_difference _ difference.Nothing (eqb-true _ _ e)) in
+        let p = passes (expected_reply n k) id r (same_difference _ None (eqb-true _ _ e)) in
         absurd (d (sym (status_is_bit (header_in r) (status_in r) p.status)))
     go false e = refl
 

@@ -1,23 +1,33 @@
 -- Bytes that are all zero, from a place on.
 use Prim.Native.Nat.{ℕ, zero, suc, ◌<◌}
-use mathlib.Core.Path.{◌≡◌, refl}
-use mathlib.Core.Bool.{true, false, and-eq-true_iff}
+use mathlib.Core.Path.{◌≡◌, refl, sym}
+use mathlib.Core.Logic.{◌↔◌}
+use mathlib.Core.Bool.{Bool, true, false, ◌&&◌, and-eq-true_iff}
 use mathlib.Core.List.{List, [], ◌∷◌}
 use native.Mathlib.Omega.{arith}
 use lib.Dec.{eqb}
-use lib.ListN.{length, get_or, drop, replicate}
-use borrow.Author.Tests.{eq-eqb, ne_eqb, eqb-true}
+use lib.ListN.{length, replicate}
+use borrow.Author.Tests.{eqb-true, eqb-false}
+use Rattle.std.specs.Prelude.{All, slice_index_or}
 use Rattle.client.specs.Replies.{all_zero}
 
-pub zero_more : (l : List ℕ) (i : ℕ) → i < length l → get_or l i 0 ≡ 0 → all_zero (drop i l) ≡ all_zero (drop (suc i) l)
-zero_more [] i h e = absurd (omega arith)
-zero_more (x ∷ xs) zero h e = simp (eq-eqb x 0 e)
-zero_more (x ∷ xs) (suc i) h e = zero_more xs i (omega arith) e
-
-pub not_zero : (l : List ℕ) (i : ℕ) → i < length l → (get_or l i 0 ≡ 0 → ⊥) → all_zero (drop i l) ≡ false
-not_zero [] i h e = absurd (omega arith)
-not_zero (x ∷ xs) zero h e = simp (ne_eqb x 0 e)
-not_zero (x ∷ xs) (suc i) h e = not_zero xs i (omega arith) e
+-- by what is known of each byte
+pub by_each : (l : List ℕ) (t : Bool) → (t ≡ true) ↔ All (λ b. b ≡ 0) l → all_zero l ≡ t
+by_each [] true h = refl
+by_each [] false h = sym (h.1 (λ k d p. absurd (omega arith)))
+by_each (x ∷ xs) t h = go (eqb x 0) refl
+  where
+    go : (z : Bool) → eqb x 0 ≡ z → z && all_zero xs ≡ t
+    go true e = by_each xs t (λ p k d l. h.0 p (suc k) d (omega arith), λ a. h.1 (λ k d l. each k d l a))
+      where
+        each : (k d : ℕ) → k < length (x ∷ xs) → All (λ b. b ≡ 0) xs → slice_index_or (x ∷ xs) k d ≡ 0
+        each zero d l a = eqb-true x 0 e
+        each (suc k) d l a = a k d (omega arith)
+    go false e = none t refl
+      where
+        none : (u : Bool) → t ≡ u → false ≡ t
+        none true q = absurd (eqb-false x 0 e (h.0 q 0 0 (omega arith)))
+        none false q = sym q
 
 pub zeros_are : (l : List ℕ) → all_zero l ≡ true → l ≡ replicate (length l) 0
 zeros_are [] e = refl

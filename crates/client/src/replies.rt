@@ -1,7 +1,7 @@
 // The head's replies, as they are expected.
-ghost use Rattle.std.specs.Prelude.{◌≡◌, ◌+◌, ◌≤◌, length, is_some, unwrap_or, IfOk};
+ghost use Rattle.std.specs.Prelude.{◌≡◌, ◌+◌, ◌≤◌, ◌↔◌, length, All, is_some, unwrap_or, IfOk, IsTrue};
 ghost use Rattle.endian.specs.Lists.{zeros};
-ghost use Rattle.client.specs.Replies.{expected_of, expected_reply, all_zero, difference_of, difference_in, digest_in, has_digest, said, said_by};
+ghost use Rattle.client.specs.Replies.{expected_of, expected_reply, difference_of, difference_in, digest_in, has_digest, said, said_by};
 
 use super::{Difference, Taken};
 
@@ -74,21 +74,22 @@ impl Kind {
 
 // Whether every byte is zero.
 fn all_zero(bytes: &[u8]) -> bool
-    ensures { result ≡ all_zero bytes.now }
+    ensures { IsTrue result ↔ All (λ b. b ≡ 0) bytes.now }
 {
     bytes.iter().all(|&b| b == 0)
 }
 
 // Reads a reply, or says in what it differs from the one that is expected.
+#[tactic(auto, unfolding(crate::specs::Replies::difference_in))]
 pub fn compare(x: Kind, id: u8, reply: &[u8]) -> Result<Taken, Difference>
     ensures difference { difference_of result ≡ difference_in (expected_of x) id reply.now }
     ensures taken { IfOk result (λ t. said t ≡ said_by (expected_of x) reply.now) }
     ensures digest { IfOk result (λ t. is_some t.digest ≡ has_digest (expected_of x)) }
 {
-    let Some(&first) = reply.first() else {
+    if reply.is_empty() {
         return Err(Difference::Header);
-    };
-    let Some(h) = framing::read_reply_header(first) else {
+    }
+    let Some(h) = framing::read_reply_header(reply[0]) else {
         return Err(Difference::Header);
     };
     if h.id != id || h.endpoint != 2 || h.len != x.len() {
