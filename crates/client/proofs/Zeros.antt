@@ -15,15 +15,15 @@ use Rattle.client.specs.Replies.{all_zero}
 pub by_each : (l : List ℕ) (t : Bool) → (t ≡ true) ↔ All (λ b. b ≡ 0) l → all_zero l ≡ t
 by_each [] true h = refl
 by_each [] false h = sym (h.1 (λ k d p. absurd (omega arith)))
-by_each (x ∷ xs) t h = go (eqb x 0) refl
+by_each (x ∷ xs) t h = go (eqb x 0) refl (by_each xs)
   where
-    go : (z : Bool) → eqb x 0 ≡ z → z && all_zero xs ≡ t
-    go true e = by_each xs t (λ p k d l. h.0 p (suc k) d (omega arith), λ a. h.1 (λ k d l. each k d l a))
+    go : (z : Bool) → eqb x 0 ≡ z → ((u : Bool) → (u ≡ true) ↔ All (λ b. b ≡ 0) xs → all_zero xs ≡ u) → z && all_zero xs ≡ t
+    go true e rest = rest t (λ p k d l. h.0 p (suc k) d (omega arith), λ a. h.1 (each a))
       where
-        each : (k d : ℕ) → k < length (x ∷ xs) → All (λ b. b ≡ 0) xs → slice_index_or (x ∷ xs) k d ≡ 0
-        each zero d l a = eqb-true x 0 e
-        each (suc k) d l a = a k d (omega arith)
-    go false e = none t refl
+        each : All (λ b. b ≡ 0) xs → All (λ b. b ≡ 0) (x ∷ xs)
+        each a zero d l = eqb-true x 0 e
+        each a (suc k) d l = a k d (omega arith)
+    go false e rest = none t refl
       where
         none : (u : Bool) → t ≡ u → false ≡ t
         none true q = absurd (eqb-false x 0 e (h.0 q 0 0 (omega arith)))

@@ -14,15 +14,16 @@ fn header(id: u8) -> u8
 }
 
 // The body of the load of a program of this size.
+#[tactic(auto, unfolding(crate::specs::Frames::load_body))]
 fn load_body(size: u32, secret: Option<[u8; 32]>) -> [u8; 128]
     ensures { result ≡ load_body size (secret_in secret) }
 {
     let mut load = [0u8; 128];
     load[0] = 0x03;
-    load[1..5].copy_from_slice(&size.to_le_bytes());
+    endian::paste(&mut load, 1, &size.to_le_bytes());
     if let Some(uss) = secret {
         load[5] = 1;
-        load[6..38].copy_from_slice(&uss);
+        endian::paste(&mut load, 6, &uss);
     }
     load
 }

@@ -1,16 +1,39 @@
--- Each test in turn: what is left of the definition is what the tests after it say.
+-- A reply without a byte, and the last test; the check finds those between.
+use Prim.Native.Nat.{ℕ, ◌+◌}
+use mathlib.Core.Path.{◌≡◌, sym, ap, ◌∙◌}
+use mathlib.Core.Bool.{cond}
+use lib.ListN.{length}
+use borrow.Author.Tests.{eqb-true}
+use Rattle.std.specs.Prelude.{None, Some}
+use Rattle.framing.specs.Answers.{fields_of}
 use Rattle.client.specs.Replies.{expected_of, difference_in}
-use Rattle.client.proofs.Expected.{no_header}
+use Rattle.client.specs.declared.Difference.TheVariants.{Filler}
+use Rattle.client.proofs.Expected.{no_header, last_test}
 use Rattle.client.proofs.replies.compare.Goals as goal
 
 pub returns-then-is_empty-clause-difference : goal.returns-then-is_empty-clause-difference
 unfolding difference_in
-returns-then-is_empty-clause-difference c = let a = c.args in rw (no_header a.id (expected_of a.x).len a.reply.now ?)
+returns-then-is_empty-clause-difference c =
+    let a = c.args in
+    let e : length a.reply.now ≡ 0 = eqb-true _ _ (sym c.is_empty.ensures ∙ c.if-is_empty.true) in
+    rw (no_header a.id (expected_of a.x).len a.reply.now e)
 
 pub returns-then-not-all_zero-clause-difference : goal.returns-then-not-all_zero-clause-difference
-unfolding difference_in
-returns-then-not-all_zero-clause-difference c = ?
+returns-then-not-all_zero-clause-difference c =
+    let a = c.args in
+    let l : difference_in (expected_of a.x) a.id a.reply.now ≡ cond c.all_zero.result None (Some Filler) =
+    last_test (expected_of a.x) a.id a.reply.now c.in-Some.h c.digest_len.result c.all_zero.result
+    (ap fields_of (sym c.in-Some.is) ∙ c.read_reply_header.ensures) c.if-h-id.false c.if-h-ne2.false (c.if-h-len.false ∙ c.len.ensures)
+    (c.if-reply-len.false ∙ ap (λ (n : ℕ). 1 + n) c.len-2.ensures) (c.if-reply-code.false ∙ c.code.ensures) (c.if-reply-from.false ∙ c.from.ensures)
+    c.digest_len.ensures c.all_zero.ensures in
+    rw (l, c.if-not-all_zero.true)
 
 pub returns-clause-difference : goal.returns-clause-difference
-unfolding difference_in
-returns-clause-difference c = ?
+returns-clause-difference c =
+    let a = c.args in
+    let l : difference_in (expected_of a.x) a.id a.reply.now ≡ cond c.all_zero.result None (Some Filler) =
+    last_test (expected_of a.x) a.id a.reply.now c.in-Some.h c.digest_len.result c.all_zero.result
+    (ap fields_of (sym c.in-Some.is) ∙ c.read_reply_header.ensures) c.if-h-id.false c.if-h-ne2.false (c.if-h-len.false ∙ c.len.ensures)
+    (c.if-reply-len.false ∙ ap (λ (n : ℕ). 1 + n) c.len-2.ensures) (c.if-reply-code.false ∙ c.code.ensures) (c.if-reply-from.false ∙ c.from.ensures)
+    c.digest_len.ensures c.all_zero.ensures in
+    rw (l, c.if-not-all_zero.false)
