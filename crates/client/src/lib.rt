@@ -80,6 +80,7 @@ pub struct Taken {
 }
 
 // The lowest refusal that the program's length, the frame ID and the frame number give, if there is one.
+#[tactic(auto, unfolding(crate::specs::Frames::refusal))]
 fn check(len: usize, id: u8, k: u32) -> Result<(), Refusal>
     ensures { number_of result ≡ refusal len id k }
 {
@@ -97,6 +98,7 @@ fn check(len: usize, id: u8, k: u32) -> Result<(), Refusal>
 
 // Makes command frame k of a program at the front of the room: 0 is the load, then come the blocks. The load has the user secret (USS), if
 // there is one.
+#[tactic(auto, using(crate::proofs::Numbers::given), unfolding(crate::specs::Frames::making))]
 pub fn make_frame(
     program: &[u8],
     id: u8,
@@ -115,6 +117,7 @@ pub fn make_frame(
 }
 
 // Reads the reply to command frame k of a program of this length.
+#[tactic(auto, using(crate::proofs::Numbers::given), unfolding(crate::specs::Replies::taking))]
 pub fn read_reply(len: usize, id: u8, k: u32, reply: &[u8]) -> Result<Taken, Refusal>
     ensures taking { taking_of result ≡ taking len id k reply.now }
     ensures digest { IfOk result (λ t. is_some t.digest ≡ has_digest (expected_reply len k)) }
@@ -128,6 +131,7 @@ pub fn read_reply(len: usize, id: u8, k: u32, reply: &[u8]) -> Result<Taken, Ref
 
 // In what the reply to command frame k of a program of this length differs from the expected one, if it does. None where the program has no
 // such frame, or the ID is over 3: then no reply is expected, and read_reply says why.
+#[tactic(auto, using(crate::proofs::Numbers::given), unfolding(crate::specs::Replies::differing))]
 pub fn reply_difference(len: usize, id: u8, k: u32, reply: &[u8]) -> Option<Difference>
     ensures { result ≡ differing len id k reply.now }
 {

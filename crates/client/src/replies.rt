@@ -80,7 +80,7 @@ fn all_zero(bytes: &[u8]) -> bool
 }
 
 // Reads a reply, or says in what it differs from the one that is expected.
-#[tactic(auto, unfolding(crate::specs::Replies::difference_in))]
+#[tactic(auto, using(crate::proofs::Expected::no_header), unfolding(crate::specs::Replies::difference_in))]
 pub fn compare(x: Kind, id: u8, reply: &[u8]) -> Result<Taken, Difference>
     ensures difference { difference_of result ≡ difference_in (expected_of x) id reply.now }
     ensures taken { IfOk result (λ t. said t ≡ said_by (expected_of x) reply.now) }

@@ -1,22 +1,13 @@
--- A reply without a byte, and the last test; the check finds those between.
+-- The last test, and none failed; the check finds the others.
 use Prim.Native.Nat.{ℕ, ◌+◌}
 use mathlib.Core.Path.{◌≡◌, sym, ap, ◌∙◌}
 use mathlib.Core.Bool.{cond}
-use lib.ListN.{length}
-use borrow.Author.Tests.{eqb-true}
 use Rattle.std.specs.Prelude.{None, Some}
 use Rattle.framing.specs.Answers.{fields_of}
 use Rattle.client.specs.Replies.{expected_of, difference_in}
 use Rattle.client.specs.declared.Difference.TheVariants.{Filler}
-use Rattle.client.proofs.Expected.{no_header, last_test}
+use Rattle.client.proofs.Expected.{last_test}
 use Rattle.client.proofs.replies.compare.Goals as goal
-
-pub returns-then-is_empty-clause-difference : goal.returns-then-is_empty-clause-difference
-unfolding difference_in
-returns-then-is_empty-clause-difference c =
-    let a = c.args in
-    let e : length a.reply.now ≡ 0 = eqb-true _ _ (sym c.is_empty.ensures ∙ c.if-is_empty.true) in
-    rw (no_header a.id (expected_of a.x).len a.reply.now e)
 
 pub returns-then-not-all_zero-clause-difference : goal.returns-then-not-all_zero-clause-difference
 returns-then-not-all_zero-clause-difference c =
