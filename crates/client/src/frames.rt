@@ -7,6 +7,7 @@ ghost use Rattle.client.specs.Frames.{secret_in, command_header, load_body, bloc
 use framing::Status;
 
 // The header of a command.
+#[tactic(auto, using(crate::proofs::Parts::by_writer), unfolding(crate::specs::Frames::command_header))]
 fn header(id: u8) -> u8
     ensures { result ≡ command_header id }
 {
@@ -38,7 +39,7 @@ fn block_body(program: &[u8], block: u32) -> [u8; 128]
     let from = protocol::place_of(block);
     let mut body = [0u8; 128];
     body[0] = 0x05;
-    body[1..n + 1].copy_from_slice(&program[from..from + n]);
+    endian::paste(&mut body, 1, &program[from..from + n]);
     body
 }
 
@@ -60,5 +61,5 @@ pub fn put(room: &mut [u8], id: u8, body: [u8; 128])
     ensures { room.new ≡ put_in room.old (command_header id ∷ body) }
 {
     room[0] = header(id);
-    room[1..129].copy_from_slice(&body);
+    endian::paste(room, 1, &body);
 }
