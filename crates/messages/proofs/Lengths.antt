@@ -7,13 +7,14 @@ use mathlib.Core.Bool.{Bool, true, false, cond}
 use mathlib.Core.List.{List, ◌++◌}
 use lib.Dec.{eqb}
 use lib.ListN.{length, take, drop, length-append, length-take, length-replicate}
+use Rattle.std.specs.Prelude.{Option, None, Some}
 use Rattle.endian.specs.Lists.{padded}
 use Rattle.protocol.specs.Commands.{length_ok, blocks_for, place_of}
 use Rattle.client.specs.Frames.{refusal}
 use Rattle.protocol.specs.Replies.{status_in}
 use Rattle.client.specs.Replies.{taking_as, digest_in, is_expected, expected_reply, refused_with, taking, differing}
 use Rattle.client.specs.declared.Difference.{Difference}
-use Rattle.client.specs.declared.Difference.TheVariants.{Nothing, Header, Length, Code, Status, Filler}
+use Rattle.client.specs.declared.Difference.TheVariants.{Header, Length, Code, Status, Filler}
 use Rattle.client.proofs.Expected.{expected_fits}
 use Rattle.text.specs.Text.{ascii, hex_of, decimal_of}
 use Rattle.text.proofs.Proved.{texts}
@@ -56,13 +57,13 @@ came_short : (x : Exchange) → length x.reply ≡ 129 → length (came_name x) 
 came_short x e =
     let l = reply_short x e in either (eqb x.got 0) _ _ 278 (omega arith) (simp length-append (omega arith))
 
-difference_short : (d : Difference) → length (difference_words d) ≤ 33
-difference_short Nothing = omega arith
-difference_short Header = omega arith
-difference_short Length = omega arith
-difference_short Code = omega arith
-difference_short Status = omega arith
-difference_short Filler = omega arith
+difference_short : (d : Option Difference) → length (difference_words d) ≤ 33
+difference_short None = omega arith
+difference_short (Some Header) = omega arith
+difference_short (Some Length) = omega arith
+difference_short (Some Code) = omega arith
+difference_short (Some Status) = omega arith
+difference_short (Some Filler) = omega arith
 
 -- a digest has 32 bytes, also where a reply is refused
 padded_length : (d : ℕ) (l : List ℕ) → d ≤ 32 → length (padded 32 (take d l)) ≡ 32

@@ -1,10 +1,10 @@
 -- The words of `./load`, in ASCII. A line of a failure is `load: `, the name of the file or the device, `: ` and one of the messages.
-use Rattle.std.specs.Prelude.{ℕ, ◌-◌, ◌*◌, ◌/◌, ◌%◌, min, cond, List, [], ◌∷◌, ◌++◌, eqb, replicate}
+use Rattle.std.specs.Prelude.{ℕ, ◌-◌, ◌*◌, ◌/◌, ◌%◌, min, cond, List, [], ◌∷◌, ◌++◌, eqb, replicate, Option, None, Some}
 use Rattle.text.specs.Text.{ascii, hex_of, decimal_of}
 use Rattle.protocol.specs.Commands.{length_ok, blocks_for, place_of}
 use Rattle.client.specs.Replies.{taking, differing}
 use Rattle.client.specs.declared.Difference.{Difference}
-use Rattle.client.specs.declared.Difference.TheVariants.{Nothing, Header, Length, Code, Status, Filler}
+use Rattle.client.specs.declared.Difference.TheVariants.{Header, Length, Code, Status, Filler}
 use Rattle.upload.specs.Upload.{came_of}
 use Rattle.upload.specs.declared.Job.{Job}
 use Rattle.upload.specs.declared.Exchange.{Exchange}
@@ -28,14 +28,14 @@ seconds_of ticks = decimal_of (ticks / 10) ++ cond (eqb (ticks % 10) 0) (ascii "
 abbrev pub came_name : Exchange → List ℕ
 came_name x = cond (eqb x.got 0) (ascii "no answer") (ascii "only " ++ hex_of (came_of x) ++ ascii " came in answer")
 
--- `Nothing` stands for a reply that goes on behind the longest one's end
-abbrev pub difference_words : Difference → List ℕ
-difference_words Nothing = ascii "length differs"
-difference_words Header = ascii "header differs"
-difference_words Length = ascii "length differs"
-difference_words Code = ascii "code differs"
-difference_words Status = ascii "status is not bit 2 of its header"
-difference_words Filler = ascii "filler differs"
+-- `None` stands for a reply that goes on behind the longest one's end
+abbrev pub difference_words : Option Difference → List ℕ
+difference_words None = ascii "length differs"
+difference_words (Some Header) = ascii "header differs"
+difference_words (Some Length) = ascii "length differs"
+difference_words (Some Code) = ascii "code differs"
+difference_words (Some Status) = ascii "status is not bit 2 of its header"
+difference_words (Some Filler) = ascii "filler differs"
 
 -- ---- messages
 

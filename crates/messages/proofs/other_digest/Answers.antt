@@ -1,11 +1,5 @@
--- Part by part.
-use Rattle.text.proofs.Texts.{then}
+-- The digest is the one that was measured.
 use Rattle.messages.proofs.other_digest.Goals as goal
 
 pub returns : goal.returns
-returns c =
-    rw (← c.read-taken.ensures) (then _ _ _ _ _
-    (then _ _ _ _ _
-    c.put_all-a.ensures
-    c.put_hex-b.ensures)
-    c.put_all.ensures)
+returns c = rw (← c.measured-measured.ensures) c.of.ensures

@@ -1,9 +1,0 @@
--- In hex is what has come.
-use borrow.Author.Rules.{rules}
-use Rattle.messages.proofs.put_reply.Goals as goal
-
-pub slice_bounds-first-end : goal.slice_bounds-first-end
-slice_bounds-first-end c = search (rules, c.well_formed.1.0)
-
-pub returns : goal.returns
-returns c = rw (← c.first.ensures) c.put_hex.ensures
