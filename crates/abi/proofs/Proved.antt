@@ -16,14 +16,15 @@ use Rattle.record.specs.declared.Digests.{Digests}
 use Rattle.protocol.specs.Commands.{load_in, is_last}
 use Rattle.protocol.specs.Replies.{name_reply, reply_header, put_in}
 use Rattle.head.specs.State.{is_whole, in_range, ended}
-use Rattle.head.specs.Answers.{refused, continues, whole, stopped, refusal_number, stop_number, report_of, Gathering, Result, Outcome}
+use Rattle.std.specs.Prelude.{Result as Tried, Ok, Err}
+use Rattle.head.specs.Answers.{refused, continues, whole, stopped, refusal_number, stop_number, reported, Gathering, Result, Outcome}
 use Rattle.head.specs.Start.{allowed, decided, starting}
 use Rattle.head.specs.Begin.{Flash, beginning}
 use Rattle.head.specs.Gather.{Step, opened, continued, byte_step, with_incoming, after_step, gathered, gather_refusal}
 use Rattle.head.specs.Act.{Request, asks_name, asks_udi, gives_load, gives_block, halts, request_of, between, takes, after_load, load_of, acted_block, finished_with, performed, acted, act_refusal}
 use Rattle.head.specs.declared.Phase.{Phase}
 use Rattle.head.specs.declared.Answer.{Answer}
-use Rattle.head.specs.declared.Answer.TheVariants.{Refused, Continue, Whole, Stopped, Started}
+use Rattle.head.specs.declared.Answer.TheVariants.{Continue, Whole, Stopped, Started}
 use Rattle.head.specs.declared.Refusal.{Refusal}
 use Rattle.head.specs.declared.Refusal.TheVariants.{StateRange, Ended, ReplyRoom, RamLength, SecretLength, RecordLength, RamSize, OutOfTurn}
 use Rattle.head.specs.declared.Stop.{Stop}
@@ -70,32 +71,32 @@ not_refused r k h e =
 not_stopped : {A : Type 0} (s : Stop) (k : ℕ) → (k ≡ 0) ⊎ (27 ≤ k) → stop_number s ≡ k → A
 not_stopped s k h e = let b = stop_range s in absurd (⊎_elim (λ z. omega (arith, b.0)) (λ z. omega (arith, b.1)) h)
 
-report : (x y : Answer) → answer_number (report_of x) ≡ answer_number (report_of y) → start_of (report_of x) ≡ start_of (report_of y) → report_of x ≡ report_of y
-report (Refused r) (Refused q) e f = ap refused e
-report (Refused r) Continue e f = not_refused r 0 (inl refl) e
-report (Refused r) Whole e f = not_refused r 64 (inr (omega arith, λ z. omega arith)) e
-report (Refused r) (Stopped s) e f = let b = stop_range s in not_refused r (stop_number s) (inr (omega arith, λ z. omega arith)) e
-report (Refused r) (Started a n) e f = not_refused r 65 (inr (omega arith, λ z. omega arith)) e
-report Continue (Refused r) e f = not_refused r 0 (inl refl) (sym e)
-report Continue Continue e f = refl
-report Continue Whole e f = absurd (omega arith)
-report Continue (Stopped s) e f = not_stopped s 0 (inl refl) (sym e)
-report Continue (Started a n) e f = absurd (omega arith)
-report Whole (Refused r) e f = not_refused r 64 (inr (omega arith, λ z. omega arith)) (sym e)
-report Whole Continue e f = absurd (omega arith)
-report Whole Whole e f = refl
-report Whole (Stopped s) e f = not_stopped s 64 (inr (omega arith)) (sym e)
-report Whole (Started a n) e f = absurd (omega arith)
-report (Stopped s) (Refused r) e f = let b = stop_range s in not_refused r (stop_number s) (inr (omega arith, λ z. omega arith)) (sym e)
-report (Stopped s) Continue e f = not_stopped s 0 (inl refl) e
-report (Stopped s) Whole e f = not_stopped s 64 (inr (omega arith)) e
-report (Stopped s) (Stopped t) e f = ap stopped e
-report (Stopped s) (Started a n) e f = not_stopped s 65 (inr (omega arith)) e
-report (Started a n) (Refused r) e f = not_refused r 65 (inr (omega arith, λ z. omega arith)) (sym e)
-report (Started a n) Continue e f = absurd (omega arith)
-report (Started a n) Whole e f = absurd (omega arith)
-report (Started a n) (Stopped s) e f = not_stopped s 65 (inr (omega arith)) (sym e)
-report (Started a n) (Started b m) e f = cc
+report : (x y : Tried Answer Refusal) → answer_number (reported x) ≡ answer_number (reported y) → start_of (reported x) ≡ start_of (reported y) → reported x ≡ reported y
+report (Err r) (Err q) e f = ap refused e
+report (Err r) (Ok Continue) e f = not_refused r 0 (inl refl) e
+report (Err r) (Ok Whole) e f = not_refused r 64 (inr (omega arith, λ z. omega arith)) e
+report (Err r) (Ok (Stopped s)) e f = let b = stop_range s in not_refused r (stop_number s) (inr (omega arith, λ z. omega arith)) e
+report (Err r) (Ok (Started a)) e f = not_refused r 65 (inr (omega arith, λ z. omega arith)) e
+report (Ok Continue) (Err r) e f = not_refused r 0 (inl refl) (sym e)
+report (Ok Continue) (Ok Continue) e f = refl
+report (Ok Continue) (Ok Whole) e f = absurd (omega arith)
+report (Ok Continue) (Ok (Stopped s)) e f = not_stopped s 0 (inl refl) (sym e)
+report (Ok Continue) (Ok (Started a)) e f = absurd (omega arith)
+report (Ok Whole) (Err r) e f = not_refused r 64 (inr (omega arith, λ z. omega arith)) (sym e)
+report (Ok Whole) (Ok Continue) e f = absurd (omega arith)
+report (Ok Whole) (Ok Whole) e f = refl
+report (Ok Whole) (Ok (Stopped s)) e f = not_stopped s 64 (inr (omega arith)) (sym e)
+report (Ok Whole) (Ok (Started a)) e f = absurd (omega arith)
+report (Ok (Stopped s)) (Err r) e f = let b = stop_range s in not_refused r (stop_number s) (inr (omega arith, λ z. omega arith)) (sym e)
+report (Ok (Stopped s)) (Ok Continue) e f = not_stopped s 0 (inl refl) e
+report (Ok (Stopped s)) (Ok Whole) e f = not_stopped s 64 (inr (omega arith)) e
+report (Ok (Stopped s)) (Ok (Stopped t)) e f = ap stopped e
+report (Ok (Stopped s)) (Ok (Started a)) e f = not_stopped s 65 (inr (omega arith)) e
+report (Ok (Started a)) (Err r) e f = not_refused r 65 (inr (omega arith, λ z. omega arith)) (sym e)
+report (Ok (Started a)) (Ok Continue) e f = absurd (omega arith)
+report (Ok (Started a)) (Ok Whole) e f = absurd (omega arith)
+report (Ok (Started a)) (Ok (Stopped s)) e f = not_stopped s 65 (inr (omega arith)) (sym e)
+report (Ok (Started a)) (Ok (Started b)) e f = cc
 
 -- ---- the arrays keep their lengths
 

@@ -1,11 +1,13 @@
 -- What is proved of the layout and of the calls for C. The proof is `abi_theorems` in proofs/Proved.antt.
-use Rattle.std.specs.Prelude.{ℕ, ◌≡◌, Bool, true, ◌&&◌, ◌||◌, List, [], ◌∷◌, ◌++◌, map, eqb, leb, length, get_or, replicate}
+use Rattle.std.specs.Prelude.{ℕ, ◌≡◌, Bool, true, ◌&&◌, ◌||◌, List, [], ◌∷◌, ◌++◌, map, eqb, leb, length, get_or, replicate, Result}
 use Rattle.endian.specs.Lists.{zeros, padded}
-use Rattle.head.specs.Answers.{report_of}
+use Rattle.head.specs.Answers.{reported, cdi_in, digest_in}
 use Rattle.head.specs.Begin.{Flash, flash_of, beginning}
 use Rattle.head.specs.Gather.{gathered}
 use Rattle.head.specs.Act.{acted}
+use Rattle.head.specs.Theorems.{bare_of, given_by}
 use Rattle.head.specs.declared.Answer.{Answer}
+use Rattle.head.specs.declared.Refusal.{Refusal}
 use Rattle.head.specs.declared.State.{State}
 use Rattle.session.specs.Session.{Call, gather, act, Entry, report_in, state_after, log}
 use Rattle.abi.specs.Layout.{Memory, lent, holds, state_in, memory_of}
@@ -80,8 +82,9 @@ pub record AbiTheorems : Type 0 where
   pub back : (s : State) → Sized s → (holds (memory_of s).bytes ≡ true) × (state_in (memory_of s) ≡ s)
   -- memory that holds a state is that state's memory
   pub forth : (m : Memory) → Lengths m → holds m.bytes ≡ true → Sized (state_in m) × (memory_of (state_in m) ≡ m)
-  -- no two answers have one number, but for starts with another address or size
-  pub answers : (x y : Answer) → answer_number (report_of x) ≡ answer_number (report_of y) → start_of (report_of x) ≡ start_of (report_of y) → x ≡ y
+  -- no two answers have one number, but for starts with another address or size, or with another CDI or digest
+  pub answers : (x y : Result Answer Refusal) → answer_number (reported x) ≡ answer_number (reported y) → start_of (reported x) ≡ start_of (reported y)
+      → (bare_of x ≡ bare_of y) × (given_by cdi_in x ≡ given_by cdi_in y → given_by digest_in x ≡ given_by digest_in y → x ≡ y)
   -- a call that answers the number of a refusal leaves everything that it was lent
   pub begin_kept : (m : Memory) (bytes udi : List ℕ) (f : Flash) (ram uds : List ℕ) (old : Start)
       → is_refusal (begin_call m bytes udi f ram uds old).answer ≡ true
