@@ -2,9 +2,21 @@
 #![tactic(auto)]
 
 ghost use Rattle.std.specs.Prelude.{◌≡◌, not, eqb};
-ghost use Rattle.client.specs.Answers.{difference_number};
+ghost use Rattle.client.specs.Answers.{number_of, difference_number};
 ghost use Rattle.client.specs.Frames.{secret_of, making_as, making};
 ghost use Rattle.client.specs.Replies.{differing, taking_as, taking_into};
+
+use client::Refusal;
+
+// 0 for a call that is accepted.
+fn number(r: Result<(), Refusal>) -> u32
+    ensures { result ≡ number_of r }
+{
+    match r {
+        Ok(()) => 0,
+        Err(why) => why.into(),
+    }
+}
 
 // Any `used` but 0 is a yes: of what another language passes as a bool, bit 0 alone would be read.
 #[unsafe(no_mangle)]
@@ -19,10 +31,7 @@ pub extern "C" fn mastfrap_make_frame(
     ensures { making_as result room.new ≡ making program.now id (secret_of (not (eqb used 0)) uss.now) k room.old }
 {
     let secret = if used == 0 { None } else { Some(*uss) };
-    match client::make_frame(program, id, secret, k, room) {
-        Ok(()) => 0,
-        Err(why) => why.into(),
-    }
+    number(client::make_frame(program, id, secret, k, room))
 }
 
 // Status and digest are written where the reply is taken; the digest is zeros but for the last reply.
