@@ -5,7 +5,7 @@
 mod cable;
 mod frames;
 
-use text::{Hex, Text};
+use text::{Hex, Show, Text};
 
 fn main(rt: HostRuntime) {
     let size = input::read_number(&mut rt.stdin());
@@ -15,9 +15,9 @@ fn main(rt: HostRuntime) {
 
 // A line each; without a start the CDI is zeros. What cannot be written is lost: there is nobody to tell.
 fn report(rt: &HostRuntime, size: u32, loaded: cable::Loaded) {
-    let received = loaded.received;
     let cdi = loaded.last.map_or([0; 32], |start| start.cdi);
     let mut t = Text::new();
-    write!(t, "size {size}\nreceived {received}\ncdi {}\n", Hex(&cdi));
+    write!(t, "size {size}\nreceived {}\n", loaded.received);
+    ("cdi ", Hex(&cdi), "\n").show(&mut t);
     let _ = text::write(&mut rt.stdout(), t);
 }

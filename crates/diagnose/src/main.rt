@@ -36,7 +36,7 @@ fn run(rt: &HostRuntime) -> Result<(), Failure> {
 fn hear(rt: &HostRuntime, begun: Monitor) -> Result<Monitor, Failure> {
     let mut room = input::zeros();
     let name = COMMAND.name_at(rt, 2, &mut room)?;
-    if name == b"-" {
+    if matches!(name, b"-") {
         return hear_file(rt, &mut rt.stdin(), b"standard input", begun);
     }
     match input::open(rt, 2, name) {

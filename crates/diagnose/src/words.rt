@@ -1,8 +1,9 @@
 // The words of a diagnosis: the reason, what to look at, and where the last byte that was read stands.
 use diagnosis::{Diagnosis, Finding, Monitor, Position, Refusal};
+use display::Words;
 use head::Stop;
 use record::Digests;
-use text::{Hex, Text};
+use text::{Hex, Show, Text};
 
 // All lines of what a monitor has found. The longest, of numbers with 20 digits, have under 490 bytes, and a text has room for 512.
 pub fn lines(m: Monitor) -> Text {
@@ -42,7 +43,7 @@ fn put_reason(t: &mut Text, d: Diagnosis) {
         Finding::Stopped(why) => {
             write!(t, "stop {}", u8::from(why));
             put_at(t, p);
-            write!(t, ": {}\n", display::words_of(why));
+            (": ", Words(why), "\n").show(t);
         }
         Finding::Unfinished => {
             write!(t, "unfinished");
@@ -63,7 +64,7 @@ fn put_reason(t: &mut Text, d: Diagnosis) {
         Finding::Started => {
             write!(t, "started");
             put_at(t, p);
-            write!(t, ", digest {}; later bytes are not read\n", Hex(&d.digest));
+            (", digest ", Hex(&d.digest), "; later bytes are not read\n").show(t);
         }
     }
 }
@@ -143,9 +144,9 @@ fn put_position(t: &mut Text, p: Position) {
 
 // The digests that differ at stop 25: the program's, and the one or two that are allowed.
 fn put_digests(t: &mut Text, measured: [u8; 32], allowed: Digests) {
-    write!(t, "measured {}\n", Hex(&measured));
-    write!(t, "allowed  {}\n", Hex(&allowed.first));
+    ("measured ", Hex(&measured), "\n").show(t);
+    ("allowed  ", Hex(&allowed.first), "\n").show(t);
     if allowed.has_second {
-        write!(t, "or       {}\n", Hex(&allowed.second));
+        ("or       ", Hex(&allowed.second), "\n").show(t);
     }
 }

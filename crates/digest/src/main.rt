@@ -59,7 +59,7 @@ fn finish(rt: &HostRuntime, context: Context, name: &[u8]) -> Result<(), Undone>
 
 // Writes the line.
 fn print_line(rt: &HostRuntime, hash: [u8; 32], name: &[u8]) -> io::Result<()> {
-    let digits = Text::of(format_args!("{}  ", Hex(&hash)));
+    let digits = Text::of((Hex(&hash), "  "));
     text::write(&mut rt.stdout(), digits)?;
     rt.stdout().write_all(name)?;
     rt.stdout().write_all(b"\n")

@@ -1,7 +1,7 @@
 // The words of a record: what begin reads of it, and the data that it leaves to the next program.
 use handover::Refusal;
 use record::{Digests, Record, ResetType};
-use text::{Hex, Text};
+use text::{Hex, Show, Text};
 
 // All lines but the last: the type, the digests, what the CDI comes from, and the mask. They have under 430 bytes, and a text has room for 512.
 pub fn lines(r: Record, bytes: [u8; 256]) -> Text {
@@ -70,9 +70,9 @@ fn put_unread(t: &mut Text, allowed: &str, has_second: bool) {
 }
 
 fn put_allowed(t: &mut Text, digests: Digests) {
-    write!(t, "allowed  {}\n", Hex(&digests.first));
+    ("allowed  ", Hex(&digests.first), "\n").show(t);
     if digests.has_second {
-        write!(t, "or       {}\n", Hex(&digests.second));
+        ("or       ", Hex(&digests.second), "\n").show(t);
     }
 }
 
@@ -80,7 +80,7 @@ fn put_allowed(t: &mut Text, digests: Digests) {
 
 fn put_basis(t: &mut Text, reset_seed: bool, id: [u8; 32]) {
     if reset_seed {
-        write!(t, "CDI      chained to measured_id {} (RESET_SEED)\n", Hex(&id));
+        ("CDI      chained to measured_id ", Hex(&id), " (RESET_SEED)\n").show(t);
     } else {
         write!(t, "CDI      from the program's digest (no RESET_SEED)\n");
     }
@@ -89,7 +89,7 @@ fn put_basis(t: &mut Text, reset_seed: bool, id: [u8; 32]) {
 // The mask, highest byte first, where it has bits that mean nothing.
 fn put_mask(t: &mut Text, mask: u32) {
     if 4 <= mask {
-        write!(t, "mask     0x{}: bits 2 to 31 are ignored\n", Hex(&mask.to_be_bytes()));
+        ("mask     0x", Hex(&mask.to_be_bytes()), ": bits 2 to 31 are ignored\n").show(t);
     }
 }
 
@@ -99,8 +99,8 @@ fn put_data(t: &mut Text, data: &[u8]) {
     write!(t, "data     {} bytes", data.len());
     match used(data) {
         b"" => write!(t, ", all zero\n"),
-        used if used.len() == data.len() => write!(t, ": {}\n", Hex(used)),
-        used => write!(t, ": {}, then zeros\n", Hex(used)),
+        used if used.len() == data.len() => (": ", Hex(used), "\n").show(t),
+        used => (": ", Hex(used), ", then zeros\n").show(t),
     }
 }
 
