@@ -5,12 +5,11 @@
 // What no contract can say is left to this file: that it hands over the bytes that it reads, in order, and writes each reply and text.
 #![tactic(auto)]
 
-ghost use Rattle.std.specs.Prelude.{◌≡◌, length};
-
-use loader::{Answer, State};
-use std::fs::File;
+use loader::{Answer, Flash, Refusal, Slot, State};
+use std::array;
 use std::io;
 use std::io::Read;
+use std::ops::ControlFlow;
 
 // What a head has when it is switched on, besides memory.
 #[derive(Clone, Copy)]
@@ -21,256 +20,180 @@ struct Device {
     built_in: [u8; 32],
 }
 
-// A head between two bytes, with its device secret and its last answer; over says that no byte is received any more.
+// A head between two bytes, with its device secret, and whether it is shown on a terminal.
 #[derive(Clone, Copy)]
 struct Head {
     state: State,
     words: [u32; 8],
-    answer: Answer,
-    over: bool,
+    terminal: bool,
 }
 
-// Descriptor 4 comes first: where there is none, what is opened next could take its place.
+// The head that goes on, or the last answer of one that receives no byte any more.
+type Turn = ControlFlow<Result<Answer, Refusal>, Head>;
+
+// Descriptor 4 comes first: where there is none, what is opened next could take its place. A head that no RAM is for has no exit status.
 fn main(rt: HostRuntime) {
     let settings = input::open_place(&rt, 4);
     let mut place = input::open_number(&rt);
-    match settings {
-        Ok(mut file) => start(&rt, &mut file, &mut place),
-        Err(_) => start(&rt, &mut io::empty(), &mut place),
+    let number = match settings {
+        Ok(mut file) => start(&rt, &mut file),
+        Err(_) => start(&rt, &mut io::empty()),
+    };
+    if let Some(number) = number {
+        input::give_number(&mut place, u32::from(number));
     }
 }
 
-// Gives the exit status, but of a head that no RAM is for.
-fn start<F: Read>(rt: &HostRuntime, settings: &mut F, place: &mut io::Result<File>) {
-    let mut ram = memory();
+// Answers the exit status. Each memory has a byte more than the most RAM, so that a program in flash can be too long.
+fn start<F: Read>(rt: &HostRuntime, settings: &mut F) -> Option<u8> {
+    let mut ram = input::zeros::<131073>();
     let device = read_device(settings);
-    let n = read_number(settings) as usize;
-    let terminal = read_number(settings) == 1;
-    if n <= 131072 {
-        let number = run(rt, settings, device, terminal, &mut ram[..n]);
-        input::give_number(place, number);
+    let n = input::read_number(settings) as usize;
+    let terminal = input::read_number(settings) == 1;
+    if 131072 < n {
+        return None;
     }
+    Some(run(rt, settings, device, terminal, &mut ram[..n]))
 }
 
-// One byte more than the most RAM, so that a program in flash can be too long. The `ensures` says the length, so that what lends this does
-// not count it again.
-fn memory() -> [u8; 131073]
-    ensures { 131073 ≡ length result }
-{
-    [0; 131073]
-}
-
-// A head with this RAM, from begin on: answers the exit status. Each slot is as long as the program in it.
+// A head with this RAM, from begin on: answers the exit status.
 fn run<F: Read>(
     rt: &HostRuntime,
     settings: &mut F,
     device: Device,
     terminal: bool,
     ram: &mut [u8],
-) -> u32 {
-    let mut slot0 = memory();
-    let mut slot1 = memory();
-    let size0 = read_slot(settings, &mut slot0);
-    let size1 = read_slot(settings, &mut slot1);
-    let head = begin(
-        rt,
-        device,
-        endian::first(&slot0, size0),
-        endian::first(&slot1, size1),
-        ram,
-    );
-    serve(rt, head, terminal, ram)
+) -> u8 {
+    let mut room0 = input::zeros::<131073>();
+    let mut room1 = input::zeros::<131073>();
+    let built_in = device.built_in;
+    let flash = Flash {
+        slot0: read_slot(settings, &mut room0),
+        slot1: read_slot(settings, &mut room1),
+        built_in,
+    };
+    let last = match begin(rt, device, flash, terminal, ram) {
+        ControlFlow::Continue(head) => serve(rt, head, ram),
+        ControlFlow::Break(last) => last,
+    };
+    display::exit_number(last)
 }
 
 // Begins, and shows what came of it.
-fn begin<'a>(
+fn begin(
     rt: &HostRuntime,
     device: Device,
-    slot0: &'a [u8],
-    slot1: &'a [u8],
+    flash: Flash<'_>,
+    terminal: bool,
     ram: &mut [u8],
-) -> Head {
-    let record = device.record;
-    let udi = device.udi;
-    let built_in = device.built_in;
+) -> Turn {
     let mut words = device.words;
-    let b = loader::begin(
-        &record,
-        udi,
-        slot0,
-        slot0.len(),
-        slot1,
-        slot1.len(),
-        built_in,
-        ram,
-        &mut words,
-    );
-    let answer = b.answer;
-    let state = b.state;
-    let cdi = b.cdi;
-    let _ = text::write(&mut rt.stderr(), display::begun(answer, cdi));
-    Head {
-        state,
-        words,
-        answer,
-        over: is_over(answer),
-    }
-}
-
-// Receives bytes until the head starts or stops. A proved loop has to end, and nothing says that a cable falls silent, so the turns are
-// counted down from a number that no cable uses up.
-fn serve(rt: &HostRuntime, begun: Head, terminal: bool, ram: &mut [u8]) -> u32 {
-    let mut head = begun;
-    let mut turns = u64::MAX;
-    while turns > 0 && !head.over {
-        let next = turn(rt, head, terminal, ram);
-        head = next;
-        turns -= 1;
-    }
-    let answer = head.answer;
-    display::exit_number(answer) as u32
-}
-
-// Receives one byte: it is gathered and shown, or a frame that is whole with it is acted on. A read that fails is an end.
-fn turn(rt: &HostRuntime, head: Head, terminal: bool, ram: &mut [u8]) -> Head {
-    let mut byte = [0u8; 1];
-    match rt.stdin().read(&mut byte) {
-        Ok(1) => receive(rt, head, byte[0], terminal, ram),
-        _ => {
-            let mut end = head;
-            end.over = true;
-            end
+    let begun = loader::begin(&device.record, device.udi, flash, ram, &mut words);
+    let answer = begun.map(|step| step.answer);
+    let _ = text::write(&mut rt.stderr(), display::begun(answer));
+    match begun {
+        Err(why) => ControlFlow::Break(Err(why)),
+        Ok(step) => {
+            let state = step.state;
+            let head = Head {
+                state,
+                words,
+                terminal,
+            };
+            turn(answer, head)
         }
     }
 }
 
-fn receive(rt: &HostRuntime, head: Head, byte: u8, terminal: bool, ram: &mut [u8]) -> Head {
-    let before = head.state;
-    let words = head.words;
-    let g = loader::gather(before, byte);
-    let answer = g.answer;
-    let state = g.state;
-    let next = Head {
-        state,
-        words,
-        answer,
-        over: is_over(answer),
-    };
-    let Answer::Whole = answer else {
-        show(rt, terminal, before, next, [0; 32]);
-        return next;
-    };
-    act(rt, next, terminal, ram)
+// The head goes on after an answer, or not.
+fn turn(answer: Result<Answer, Refusal>, head: Head) -> Turn {
+    match answer {
+        Ok(Answer::Continue | Answer::Whole) => ControlFlow::Continue(head),
+        _ => ControlFlow::Break(answer),
+    }
+}
+
+// Receives bytes until the head starts or stops. A proved loop has to end, and nothing says that a cable falls silent, so the turns are
+// counted from a number that no cable uses up. A read that fails is an end.
+fn serve(rt: &HostRuntime, begun: Head, ram: &mut [u8]) -> Result<Answer, Refusal> {
+    let mut head = begun;
+    for _ in 0..u64::MAX {
+        let mut byte = [0u8; 1];
+        let Ok(1) = rt.stdin().read(&mut byte) else {
+            break;
+        };
+        match receive(rt, head, byte[0], ram) {
+            ControlFlow::Continue(next) => head = next,
+            ControlFlow::Break(last) => return last,
+        }
+    }
+    Ok(Answer::Continue)
+}
+
+// Receives a byte: it is gathered and shown, or a frame that is whole with it is acted on.
+fn receive(rt: &HostRuntime, head: Head, byte: u8, ram: &mut [u8]) -> Turn {
+    match loader::gather(head.state, byte) {
+        Err(why) => show(rt, head, Err(why), head),
+        Ok(step) => {
+            let next = Head {
+                state: step.state,
+                ..head
+            };
+            if let Answer::Whole = step.answer {
+                act(rt, next, ram)
+            } else {
+                show(rt, head, Ok(step.answer), next)
+            }
+        }
+    }
 }
 
 // Acts on the frame that is whole: its reply is sent, and then it is shown.
-fn act(rt: &HostRuntime, head: Head, terminal: bool, ram: &mut [u8]) -> Head {
-    let before = head.state;
+fn act(rt: &HostRuntime, head: Head, ram: &mut [u8]) -> Turn {
     let mut words = head.words;
     let mut room = [0u8; 129];
-    let r = loader::act(before, &mut room, ram, &mut words);
-    send(rt, room, r.reply);
-    let answer = r.answer;
-    let state = r.state;
-    let cdi = r.cdi;
-    let next = Head {
-        state,
-        words,
-        answer,
-        over: is_over(answer),
-    };
-    show(rt, terminal, before, next, cdi);
-    next
-}
-
-// Shows what came of a byte: the state before it, and the head after it.
-fn show(rt: &HostRuntime, terminal: bool, before: State, after: Head, cdi: [u8; 32]) {
-    let answer = after.answer;
-    let state = after.state;
-    let _ = text::write(
-        &mut rt.stderr(),
-        display::received(terminal, before.progress, answer, state.progress, cdi),
-    );
-}
-
-fn is_over(answer: Answer) -> bool {
-    match answer {
-        Answer::Continue => false,
-        Answer::Whole => false,
-        Answer::Refused(_) => true,
-        Answer::Stopped(_) => true,
-        Answer::Started {
-            address: _,
-            size: _,
-        } => true,
+    match loader::act(head.state, &mut room, ram, &mut words) {
+        Err(why) => show(rt, head, Err(why), head),
+        Ok(acted) => {
+            let _ = rt.stdout().write_all(endian::first(&room, acted.reply));
+            let next = Head {
+                state: acted.state,
+                words,
+                ..head
+            };
+            show(rt, head, Ok(acted.answer), next)
+        }
     }
 }
 
-// Sends the first n bytes of the room. No reply is longer than the room, and the test spares the proof of it.
-fn send(rt: &HostRuntime, room: [u8; 129], n: usize) {
-    if n <= 129 {
-        let _ = rt.stdout().write_all(&room[..n]);
-    }
+// Shows what came of a byte: the head before it and after it.
+fn show(rt: &HostRuntime, before: Head, answer: Result<Answer, Refusal>, after: Head) -> Turn {
+    let was = before.state.progress;
+    let shown = display::received(before.terminal, was, answer, after.state.progress);
+    let _ = text::write(&mut rt.stderr(), shown);
+    turn(answer, after)
 }
 
 // ---- descriptor 4; what does not come there is zeros
 
 fn read_device<F: Read>(settings: &mut F) -> Device {
-    let record = read_record(settings);
-    let words = read_words(settings);
-    let udi = read_udi(settings);
-    let built_in = read_digest(settings);
     Device {
-        record,
-        words,
-        udi,
-        built_in,
+        record: input::read_array(settings),
+        words: array::from_fn(|_| input::read_number(settings)),
+        udi: input::read_array(settings),
+        built_in: input::read_array(settings),
     }
 }
 
-fn read_record<F: Read>(settings: &mut F) -> [u8; 256] {
-    let mut record = [0u8; 256];
-    input::read_full(settings, &mut record);
-    record
-}
-
-fn read_words<F: Read>(settings: &mut F) -> [u32; 8] {
-    [
-        read_number(settings),
-        read_number(settings),
-        read_number(settings),
-        read_number(settings),
-        read_number(settings),
-        read_number(settings),
-        read_number(settings),
-        read_number(settings),
-    ]
-}
-
-fn read_udi<F: Read>(settings: &mut F) -> [u8; 8] {
-    let mut udi = [0u8; 8];
-    input::read_full(settings, &mut udi);
-    udi
-}
-
-fn read_digest<F: Read>(settings: &mut F) -> [u8; 32] {
-    let mut digest = [0u8; 32];
-    input::read_full(settings, &mut digest);
-    digest
-}
-
-// A slot's length and its bytes: says how many there are.
-fn read_slot<F: Read>(settings: &mut F, slot: &mut [u8]) -> usize {
-    let n = read_number(settings) as usize;
-    if slot.len() < n {
-        return 0;
+// A slot's length and its bytes; the slot is as long as the program in it.
+fn read_slot<'a, F: Read>(settings: &mut F, room: &'a mut [u8]) -> Slot<'a> {
+    let n = input::read_number(settings) as usize;
+    let size = match room.get_mut(..n) {
+        Some(slot) => input::read_full(settings, slot),
+        None => 0,
+    };
+    Slot {
+        bytes: endian::first(room, size),
+        size,
     }
-    input::read_full(settings, &mut slot[..n])
-}
-
-// Four bytes, lowest first.
-fn read_number<F: Read>(settings: &mut F) -> u32 {
-    let mut b = [0u8; 4];
-    input::read_full(settings, &mut b);
-    endian::word(b[0], b[1], b[2], b[3])
 }
