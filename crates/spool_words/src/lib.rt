@@ -2,42 +2,50 @@
 #![tactic(auto)]
 
 ghost use Rattle.std.specs.Prelude.{◌≡◌};
-ghost use Rattle.text.specs.Text.{added, text_of};
+ghost use Rattle.text.specs.Text.{text_of};
 ghost use Rattle.spool.specs.Answers.{number_of};
 ghost use Rattle.spool_words.specs.Words.{fault_words, block_words, good_before, refusal_words};
 
-use spool::Answer;
-use text::Text;
+use spool::Refusal;
+use spool_block::Fault;
+use text::{Show, Text};
 
 // What is wrong, and its number.
-pub fn put_fault(t: Text, answer: Answer) -> Text
-    ensures { result ≡ added t (fault_words (number_of answer)) }
-{
-    match answer {
-        Answer::Accepted => text::put_all(t, b"nothing is wrong (0)"),
-        Answer::ProgramLength => text::put_all(t, b"its length is not 1 to 131072 bytes (40)"),
-        Answer::SpoolLength => text::put_all(
-            t,
-            b"its length is not 1 to 278 blocks of 512 bytes (50)",
-        ),
-        Answer::BlockCheck => text::put_all(t, b"its check is not the hash of its bytes (51)"),
-        Answer::BlockNumber => text::put_all(t, b"it has another number (52)"),
-        Answer::BlockCount => text::put_all(
-            t,
-            b"it uses a wrong count of bytes, or its filler is not zero (53)",
-        ),
-        Answer::RoomLength => text::put_all(t, b"there is no room for it (54)"),
+#[derive(Clone, Copy)]
+pub struct Wrong(pub Result<(), Refusal>);
+
+impl Show for Wrong {
+    ghost words = { λ w. fault_words (number_of w.0) };
+
+    fn show(&self, t: &mut Text) {
+        match self.0 {
+            Ok(()) => "nothing is wrong (0)",
+            Err(Refusal::ProgramLength) => "its length is not 1 to 131072 bytes (40)",
+            Err(Refusal::SpoolLength) => "its length is not 1 to 278 blocks of 512 bytes (50)",
+            Err(Refusal::Block(Fault::Check)) => "its check is not the hash of its bytes (51)",
+            Err(Refusal::Block(Fault::Number)) => "it has another number (52)",
+            Err(Refusal::Block(Fault::Count)) => {
+                "it uses a wrong count of bytes, or its filler is not zero (53)"
+            }
+            Err(Refusal::RoomLength) => "there is no room for it (54)",
+        }
+        .show(t)
     }
 }
 
 // Which block it is, and what is wrong with it.
-pub fn put_block(t: Text, place: usize, answer: Answer) -> Text
-    ensures { result ≡ added t (block_words place (number_of answer)) }
-{
-    let a = text::put_all(t, b"block ");
-    let b = text::put_decimal(a, place as u64);
-    let c = text::put_all(b, b": ");
-    put_fault(c, answer)
+#[derive(Clone, Copy)]
+pub struct WrongBlock {
+    pub place: usize,
+    pub answer: Result<(), Refusal>,
+}
+
+impl Show for WrongBlock {
+    ghost words = { λ w. block_words w.place (number_of w.answer) };
+
+    fn show(&self, t: &mut Text) {
+        ("block ", self.place, ": ", Wrong(self.answer)).show(t)
+    }
 }
 
 // How many blocks are good before the first that is not.
@@ -45,13 +53,10 @@ fn good_before(bytes: &[u8]) -> usize
     ensures { result ≡ good_before bytes.now }
 {
     let n = bytes.len() / 512;
-    let mut i: usize = 0;
-    while i < n {
-        let answer = spool::look(bytes, i);
-        if spool::answer_number(answer) != 0 {
+    for i in 0..n {
+        if spool::look(bytes, i).is_err() {
             return i;
         }
-        i += 1;
     }
     n
 }
@@ -60,10 +65,10 @@ fn good_before(bytes: &[u8]) -> usize
 pub fn refusal(bytes: &[u8]) -> Text
     ensures { result ≡ text_of (refusal_words bytes.now) }
 {
-    let i = good_before(bytes);
-    let answer = spool::look(bytes, i);
-    if spool::answer_number(answer) == 50 {
-        return put_fault(text::empty(), answer);
+    let place = good_before(bytes);
+    let answer = spool::look(bytes, place);
+    if answer == Err(Refusal::SpoolLength) {
+        return Text::of(Wrong(answer));
     }
-    put_block(text::empty(), i, answer)
+    Text::of(WrongBlock { place, answer })
 }
