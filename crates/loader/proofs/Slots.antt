@@ -12,17 +12,16 @@ use borrow.Author.Tests.{leb-true, leb-false, le-leb}
 use Rattle.rfc7693.specs.Rfc7693.{blake2s}
 use Rattle.protocol.specs.Replies.{put_in}
 use Rattle.record.specs.Record.{Contents}
-use Rattle.record.specs.Types.{Source, source_at, source_of}
-use Rattle.record.specs.declared.Place.{Place}
+use Rattle.record.specs.Types.{Source, source_of}
 use Rattle.head.specs.State.{of_size}
-use Rattle.head.specs.Answers.{stopped, result_of}
+use Rattle.head.specs.Answers.{stopped, result_in}
 use Rattle.head.specs.Start.{ending, decided}
 use Rattle.head.specs.Begin.{Flash, config_of, fits, from_flash, by_source, by_type}
 use Rattle.head.proofs.Ranges.{fit_facts}
 use Rattle.head.specs.declared.Phase.TheVariants as phase
 use Rattle.head.specs.declared.Config.{Config}
 use Rattle.head.specs.declared.Progress.{Progress}
-use Rattle.head.specs.declared.Begun.{Begun}
+use Rattle.head.specs.declared.Step.{Step}
 
 -- all of a program at the front of RAM
 put_at_front : (ram s : List ℕ) → paste ram 0 s (length s) ≡ put_in ram s
@@ -51,20 +50,20 @@ module _ (slot : List ℕ) (n : ℕ) (c : Config) (ram uds program : List ℕ) (
       let f = fit_facts n (length slot) (length ram) (sym tested ∙ e) in
       (ap (λ (p : List ℕ). length p) ep ∙ length-take-le n slot f.1, f.2)
 
-  pub does_not_fit : t ≡ false → (x : Begun) → ((m u : List ℕ) → result_of x m u ≡ ending (stopped 26) c.ram_len m u)
-      → result_of x ram uds ≡ from_flash (record { bytes = slot; size = n }) c ram uds
+  pub does_not_fit : t ≡ false → (x : Step) → ((m u : List ℕ) → result_in x m u ≡ ending (stopped 26) c.ram_len m u)
+      → result_in x ram uds ≡ from_flash (record { bytes = slot; size = n }) c ram uds
   unfolding from_flash
   does_not_fit e x ex = rw (← tested, e) (ex ram uds)
 
-  pub booted : t ≡ true → (d : List ℕ) (p : Progress) (x : Begun) (ram' uds' : List ℕ) → d ≡ blake2s [] program 32
+  pub booted : t ≡ true → (d : List ℕ) (p : Progress) (x : Step) (ram' uds' : List ℕ) → d ≡ blake2s [] program 32
       → ram' ≡ paste ram 0 program (length program) → p ≡ of_size phase.Loading n
-      → ((m : List ℕ) → result_of x m uds' ≡ decided c p d m uds) → result_of x ram' uds' ≡ from_flash (record { bytes = slot; size = n }) c ram uds
+      → ((m : List ℕ) → result_in x m uds' ≡ decided c p d m uds) → result_in x ram' uds' ≡ from_flash (record { bytes = slot; size = n }) c ram uds
   unfolding from_flash
   booted e d p x ram' uds' ed er es ex =
       rw (← tested, e, ← ep) (ex ram' ∙ rw (er, put_at_front ram program, es, ed))
 
 -- where the program comes from, as the record says it
-pub by_source_is : (r : Contents) (udi : List ℕ) (f : Flash) (ram uds : List ℕ) (k : Place) (c : Config) → source_at k ≡ source_of r.type
-    → c ≡ config_of r udi f.built_in (length ram) → by_source (source_at k) f c ram uds ≡ by_type r udi f ram uds
+pub by_source_is : (r : Contents) (udi : List ℕ) (f : Flash) (ram uds : List ℕ) (k : Source) (c : Config) → k ≡ source_of r.type
+    → c ≡ config_of r udi f.built_in (length ram) → by_source k f c ram uds ≡ by_type r udi f ram uds
 by_source_is r udi f ram uds k c e ec =
     ap (λ (x : Source). by_source x f c ram uds) e ∙ ap (λ (x : Config). by_source (source_of r.type) f x ram uds) ec

@@ -10,18 +10,15 @@ use Rattle.protocol.specs.Replies.{sent, load_reply, block_reply, digest_reply, 
 use Rattle.protocol.specs.declared.Frame.{Frame}
 use Rattle.protocol.specs.declared.Load.{Load}
 use Rattle.protocol.specs.declared.Reply.{Reply}
-use Rattle.head.specs.Answers.{refusal_number, Result, result_of, replied, outcome}
+use Rattle.head.specs.Answers.{Result, result_in, replied, outcome_in}
 use Rattle.head.specs.Start.{decided}
-use Rattle.head.specs.Act.{frame_in, load_of, takes, loaded, load_answer, after_load, stored_in, next_block, between, finished_with, finished, acted_block, act_refusal, acted}
+use Rattle.head.specs.Act.{frame_in, load_of, takes, loaded, load_answer, after_load, stored_in, next_block, between, finished_with, finished, acted_block}
 use Rattle.head.specs.Steps.{frame_of}
-use Rattle.loader.specs.Steps.{plainly, Replies}
-use Rattle.head.specs.declared.Refusal.{Refusal}
-use Rattle.head.specs.declared.Answer.TheVariants.{Refused}
+use Rattle.loader.specs.Steps.{Replies}
 use Rattle.head.specs.declared.Progress.{Progress}
 use Rattle.head.specs.declared.State.{State}
-use Rattle.head.specs.declared.Begun.{Begun}
+use Rattle.head.specs.declared.Step.{Step}
 use Rattle.head.specs.declared.Acted.{Acted}
-use Rattle.head.proofs.Admitted.{numbered}
 
 -- a load, as it is read, tested and answered
 module _ (s : State) (f : Frame) (l : Load) (g : Bool) (r : Reply)
@@ -59,22 +56,16 @@ module _ (s : State) (f : Frame) (last : Bool) (room ram ram' uds : List ℕ) (e
   last_block t = rw (← el, t) (ap (λ (x : List ℕ). finished s room x uds) stored)
 
   pub other_block : last ≡ false → (r : Reply) (p : Progress) (x : Acted) (room' : List ℕ) → r ≡ block_reply s.incoming.header
-      → p ≡ next_block s.progress → Replies x r (between s p) room room' → outcome x room' ram' uds ≡ acted_block s room ram uds
+      → p ≡ next_block s.progress → Replies x r (between s p) room room' → outcome_in x room' ram' uds ≡ acted_block s room ram uds
   unfolding acted_block
   other_block t r p x room' er ep ex = rw (← el, t, ex.0, ex.1, er, ep, stored)
 
 -- after the last block, with the digest that is measured and how the program then ended
-pub finished_as : (s : State) (d room ram uds : List ℕ) (x : Acted) (b : Begun) (room' uds' : List ℕ)
+pub finished_as : (s : State) (d room ram uds : List ℕ) (x : Acted) (b : Step) (room' uds' : List ℕ)
     → d ≡ blake2s [] (take s.progress.size ram) 32 → room' ≡ put_in room (sent (digest_reply s.incoming.header d))
-    → ((r m u : List ℕ) → outcome x r m u ≡ replied 129 r (result_of b m u))
-    → ((m : List ℕ) → result_of b m uds' ≡ decided s.config s.progress d m uds) → outcome x room' ram uds' ≡ finished s room ram uds
+    → ((r m u : List ℕ) → outcome_in x r m u ≡ replied 129 r (result_in b m u))
+    → ((m : List ℕ) → result_in b m uds' ≡ decided s.config s.progress d m uds) → outcome_in x room' ram uds' ≡ finished s room ram uds
 unfolding finished_with
 finished_as s d room ram uds x b room' uds' ed er ex eb =
     ex room' ram uds' ∙ ap (λ (y : Result). replied 129 room' y) (eb ram)
     ∙ ap (λ (r : List ℕ). replied 129 r (decided s.config s.progress d ram uds)) er ∙ ap (λ (y : List ℕ). finished_with y s room ram uds) ed
-
--- a refused call
-pub refused_as : (s : State) (room ram uds : List ℕ) (w : Refusal) (x : Acted) → x ≡ plainly (Refused w) 0 s
-    → refusal_number w ≡ act_refusal s (length room) (length ram) (length uds) → outcome x room ram uds ≡ acted s room ram uds
-unfolding acted
-refused_as s room ram uds w x ex e = rw (ex, ← e, numbered w)

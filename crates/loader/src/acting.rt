@@ -82,10 +82,9 @@ fn replied(x: Step) -> Acted
 }
 
 // After the last block the program is measured, its digest is given, and the head starts or stops.
-fn finish(s: State, room: &mut [u8], ram: &mut [u8], uds: &mut [u32]) -> Acted
+fn finish(s: State, room: &mut [u8], ram: &mut [u8], uds: &mut [u32; 8]) -> Acted
     requires in_bounds { 129 ≤ length room.old }
     requires size_in_bounds { (s.progress.size ≤ length ram.old) × (s.progress.size ≤ longest) }
-    requires uds_len { length uds.old ≡ 8 }
     ensures { outcome_in result room.new ram.new uds.new ≡ finished s room.old ram.old uds.old }
 {
     let n = s.progress.size as usize;
@@ -95,11 +94,10 @@ fn finish(s: State, room: &mut [u8], ram: &mut [u8], uds: &mut [u32]) -> Acted
 }
 
 // A block.
-fn act_block(s: State, room: &mut [u8], ram: &mut [u8], uds: &mut [u32]) -> Acted
+fn act_block(s: State, room: &mut [u8], ram: &mut [u8], uds: &mut [u32; 8]) -> Acted
     requires in_bounds { 129 ≤ length room.old }
     requires ram_value { loading_ok s.progress (length ram.old) ≡ true }
     requires ram_len_bound { length ram.old ≤ longest }
-    requires uds_len { length uds.old ≡ 8 }
     ensures { outcome_in result room.new ram.new uds.new ≡ acted_block s room.old ram.old uds.old }
 {
     let p = s.progress;
@@ -111,11 +109,10 @@ fn act_block(s: State, room: &mut [u8], ram: &mut [u8], uds: &mut [u32]) -> Acte
 }
 
 // A whole frame of a call that is not refused.
-pub fn perform(s: State, room: &mut [u8], ram: &mut [u8], uds: &mut [u32]) -> Acted
+pub fn perform(s: State, room: &mut [u8], ram: &mut [u8], uds: &mut [u32; 8]) -> Acted
     requires ram_value { progress_ok s.progress (length ram.old) ≡ true }
     requires in_bounds { 129 ≤ length room.old }
     requires ram_len_bound { length ram.old ≤ longest }
-    requires uds_len { length uds.old ≡ 8 }
     ensures { outcome_in result room.new ram.new uds.new ≡ performed (request_of s) s room.old ram.old uds.old }
 {
     match head::decide(s) {

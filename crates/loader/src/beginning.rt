@@ -30,10 +30,10 @@ pub fn by_type(
     udi: [u8; 8],
     flash: Flash<'_>,
     ram: &mut [u8],
-    uds: &mut [u32],
+    uds: &mut [u32; 8],
 ) -> Step
-    requires { (length ram.old ≤ longest) × (length uds.old ≡ 8) }
-    ensures { result_in result ram.new uds.new ≡ by_type (record_of r) udi (lent flash) ram.old uds.old }
+    requires { length ram.old ≤ longest }
+    ensures { result_in result ram.new uds.new ≡ by_type (record_of r) udi (lent flash.entry) ram.old uds.old }
 {
     let Some(reset_type) = r.reset_type else {
         return super::starting::end(Stop::UnknownType, ram.len());

@@ -24,9 +24,9 @@ pub struct Flash<'a> {
 
 // The program in a slot is measured, put in RAM and started, if it is allowed. Its front part is shorter than the size exactly where the slot
 // is.
-pub fn boot(c: Config, slot: Slot<'_>, ram: &mut [u8], uds: &mut [u32]) -> Step
-    requires { (length ram.old ≤ longest) × (length uds.old ≡ 8) }
-    ensures { result_in result ram.new uds.new ≡ from_flash (slot_in slot) c ram.old uds.old }
+pub fn boot(c: Config, slot: Slot<'_>, ram: &mut [u8], uds: &mut [u32; 8]) -> Step
+    requires { length ram.old ≤ longest }
+    ensures { result_in result ram.new uds.new ≡ from_flash (slot_in slot.entry) c ram.old uds.old }
 {
     let program = endian::first(slot.bytes, slot.size);
     if !head::fits(slot.size, program.len(), ram.len()) {

@@ -31,9 +31,12 @@ pub fn begin(
     ram: &mut [u8],
     uds: &mut [u32],
 ) -> Result<Step, Refusal>
-    ensures { result_of result ram.new uds.new ≡ beginning «record».now udi (lent flash) ram.old uds.old }
+    ensures { result_of result ram.new uds.new ≡ beginning «record».now udi (lent flash.entry) ram.old uds.old }
 {
     head::admit_begin(record.len(), ram.len(), uds.len())?;
+    let Some(uds) = uds.as_mut_array() else {
+        return Err(Refusal::SecretLength);
+    };
     let r = record::read(record::front(record));
     Ok(beginning::by_type(r, udi, flash, ram, uds))
 }
@@ -48,5 +51,8 @@ pub fn act(
     ensures { outcome result s room.new ram.new uds.new ≡ acted s room.old ram.old uds.old }
 {
     head::admit_act(s, room.len(), ram.len(), uds.len())?;
+    let Some(uds) = uds.as_mut_array() else {
+        return Err(Refusal::SecretLength);
+    };
     Ok(acting::perform(s, room, ram, uds))
 }

@@ -1,9 +1,7 @@
 // Bytes read and written in what is lent: the reply room, RAM and the device secret.
-ghost use Rattle.std.specs.Prelude.{◌≡◌, [], ◌+◌, ◌≤◌, length};
-ghost use Rattle.std.proofs.Math.Seq.{paste};
-ghost use Rattle.rfc7693.specs.Rfc7693.{blake2s};
+ghost use Rattle.std.specs.Prelude.{◌≡◌, ◌+◌, ◌≤◌, length};
 ghost use Rattle.endian.specs.Endian.{bytes};
-ghost use Rattle.protocol.specs.Commands.{longest, bytes_of, place_of, count_in};
+ghost use Rattle.protocol.specs.Commands.{bytes_of, place_of, count_in};
 ghost use Rattle.protocol.specs.Replies.{sent, put_in};
 ghost use Rattle.head.specs.Act.{stored_in};
 
@@ -15,10 +13,8 @@ pub fn put(room: &mut [u8], r: Reply)
     requires len_bound { r.len ≤ 128 }
     ensures { room.new ≡ put_in room.old (sent r) }
 {
-    let n = r.len;
-    let body = r.body;
     room[0] = r.header;
-    endian::paste(room, 1, &body[..n]);
+    endian::paste(room, 1, &r.body[..r.len]);
 }
 
 // Puts the program bytes that a block carries in RAM.
@@ -27,9 +23,7 @@ pub fn store(ram: &mut [u8], f: Frame, size: u32, block: u32)
     ensures { ram.new ≡ stored_in ram.old (bytes_of f) size block }
 {
     let n = protocol::count_in(size, block);
-    let at = protocol::place_of(block);
-    let body = f.body;
-    endian::paste(ram, at, &body[1..n + 1]);
+    endian::paste(ram, protocol::place_of(block), &f.body[1..n + 1]);
 }
 
 // The device secret as bytes.

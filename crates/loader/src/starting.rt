@@ -1,5 +1,5 @@
 // A program that is in RAM and was measured, a client's or one from flash: it starts, or the head stops.
-ghost use Rattle.std.specs.Prelude.{◌≡◌, List, ℕ, length};
+ghost use Rattle.std.specs.Prelude.{◌≡◌, List, ℕ};
 ghost use Rattle.head.specs.Answers.{stop_number, stopped, result_in};
 ghost use Rattle.head.specs.Start.{ending, starting, decided};
 
@@ -16,15 +16,14 @@ pub fn end(why: Stop, ram_len: usize) -> Step
 }
 
 // A start: the device secret is read, and then cleared.
-fn start(c: Config, p: Progress, digest: [u8; 32], uds: &mut [u32]) -> Step
-    requires { length uds.old ≡ 8 }
+fn start(c: Config, p: Progress, digest: [u8; 32], uds: &mut [u32; 8]) -> Step
     ensures { (ram : List ℕ) → result_in result ram uds.new ≡ starting c p digest ram uds.old }
 {
     let secret = super::memory::secret_bytes(uds);
     let measured_id = c.chained.then_some(c.measured_id);
     let uss = p.uss_used.then_some(p.uss);
     let cdi = cdi::derive(secret, measured_id, digest, uss);
-    endian::clear(uds);
+    *uds = [0; 8];
     Step {
         answer: Answer::Started(Start {
             address: 0x40000000,
@@ -37,8 +36,7 @@ fn start(c: Config, p: Progress, digest: [u8; 32], uds: &mut [u32]) -> Step
 }
 
 // Starts the program if its digest is allowed. Otherwise the head stops with 25, and the device secret is not read.
-pub fn start_or_stop(c: Config, p: Progress, digest: [u8; 32], uds: &mut [u32]) -> Step
-    requires { length uds.old ≡ 8 }
+pub fn start_or_stop(c: Config, p: Progress, digest: [u8; 32], uds: &mut [u32; 8]) -> Step
     ensures { (ram : List ℕ) → result_in result ram uds.new ≡ decided c p digest ram uds.old }
 {
     if head::allowed(c, digest) {
