@@ -1,12 +1,22 @@
--- What a call that is accepted was given.
+-- Numbers: no refusal has 0, and what a call that is accepted was given.
 use Prim.Native.Nat.{ℕ, ◌≤◌}
 use mathlib.Core.Path.{◌≡◌, refl}
 use mathlib.Core.Bool.{Bool, true, false, not, cond, ◌&&◌}
 use native.Mathlib.Omega.{arith}
-use lib.Dec.{leb, ltb}
+use lib.Dec.{eqb, leb, ltb}
 use borrow.Author.Tests.{leb-true, ltb-false}
 use Rattle.protocol.specs.Commands.{blocks_for}
+use Rattle.client.specs.Answers.{refusal_number}
 use Rattle.client.specs.Frames.{refusal}
+use Rattle.client.specs.declared.Refusal.{Refusal}
+use Rattle.client.specs.declared.Refusal.TheVariants.{FrameRoom, ProgramLength, FrameId, FrameNumber, UnexpectedReply}
+
+pub refused_number : (why : Refusal) → eqb (refusal_number why) 0 ≡ false
+refused_number FrameRoom = refl
+refused_number ProgramLength = refl
+refused_number FrameId = refl
+refused_number FrameNumber = refl
+refused_number UnexpectedReply = refl
 
 -- the program, the frame ID and the frame number of a call that is not refused
 pub record Given (n id k : ℕ) : Type 0 where

@@ -13,7 +13,7 @@ use Rattle.framing.proofs.Headers.{reply_small}
 use Rattle.protocol.specs.Commands.{place_of}
 use Rattle.client.specs.Replies.{Taking, taking_as, taking}
 use Rattle.client.proofs.Proved.{taken_whole}
-use Rattle.upload.specs.Upload.{is_over, turn_of, sent_frame, after_reply, onward, replied, is_whole, received, silent, bytes_of, runs}
+use Rattle.upload.specs.Upload.{is_over, Loaded, turn_of, sent_frame, after_reply, onward, replied, is_whole, received, silent, bytes_of, runs}
 use Rattle.upload.specs.Theorems.{Heard, nothing, byte, silence, Answer, Loads, last, more}
 use Rattle.upload.proofs.Held.{held, body_of, came, one_more, whole_is}
 use Rattle.upload.specs.declared.Job.{Job}
@@ -21,7 +21,7 @@ use Rattle.upload.specs.declared.Exchange.{Exchange}
 use Rattle.upload.specs.declared.Event.{Event}
 use Rattle.upload.specs.declared.Event.TheVariants.{Byte}
 use Rattle.upload.specs.declared.Next.{Next}
-use Rattle.upload.specs.declared.Next.TheVariants.{Send, Wait, Loaded, Failed}
+use Rattle.upload.specs.declared.Next.TheVariants.{Send, Wait, Over}
 use Rattle.upload.specs.declared.Turn.{Turn}
 
 -- ---- an event, by what it makes of the reply
@@ -101,8 +101,7 @@ bytes_append (b ∷ r) s = ap (λ (es : List Event). Byte b ∷ es) (bytes_appen
 onward_next : (job : Job) (x : Exchange) (next : Next) → (onward job x next).next ≡ next
 onward_next job x Send = refl
 onward_next job x Wait = refl
-onward_next job x Loaded = refl
-onward_next job x (Failed why) = refl
+onward_next job x (Over r) = refl
 
 replied_next : (job : Job) (k : ℕ) (r : List ℕ) (t : ℕ)
     → (replied job (held k r t)).next ≡ after_reply job k (taking job.len job.id k r)

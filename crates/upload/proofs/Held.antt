@@ -13,14 +13,14 @@ use Rattle.framing.specs.Header.{fields_at, reply_body_len}
 use Rattle.framing.proofs.Headers.{reply_small}
 use Rattle.protocol.specs.Commands.{place_of}
 use Rattle.client.specs.Replies.{taking_as, taking}
-use Rattle.upload.specs.Upload.{turn_of, over, sent_frame, came_of, replied, with_byte, is_whole, turned}
+use Rattle.upload.specs.Upload.{Loaded, turn_of, over, sent_frame, came_of, replied, with_byte, is_whole, turned}
 use Rattle.upload.proofs.Turns.{by_reply, by_event}
 use Rattle.upload.specs.declared.Job.{Job}
 use Rattle.upload.specs.declared.Exchange.{Exchange}
 use Rattle.upload.specs.declared.Event.{Event}
 use Rattle.upload.specs.declared.Event.TheVariants.{Byte, Silence}
 use Rattle.upload.specs.declared.Failure.{Failure}
-use Rattle.upload.specs.declared.Next.TheVariants.{Send, Wait, Loaded}
+use Rattle.upload.specs.declared.Next.TheVariants.{Send, Wait}
 use Rattle.upload.specs.declared.Turn.{Turn}
 
 -- frame k, of whose reply r has come; `sent_frame` where nothing has

@@ -11,7 +11,7 @@ use borrow.Author.Tests.{le-leb, le-ltb}
 use Rattle.endian.proofs.Cases.{impossible}
 use Rattle.protocol.specs.Commands.{length_ok, place_of}
 use Rattle.client.specs.Replies.{Taking, taking_as, taking}
-use Rattle.upload.specs.Upload.{is_over, turn_of, over, sent_frame, opening, runs}
+use Rattle.upload.specs.Upload.{is_over, Loaded, Failed, turn_of, over, sent_frame, opening, runs}
 use Rattle.upload.specs.Theorems.{Heard, nothing, byte, silence, Answer, Loads, last, more}
 use Rattle.client.proofs.Numbers.{Given}
 use Rattle.upload.proofs.Replies.{taken_given}
@@ -24,7 +24,7 @@ use Rattle.upload.specs.declared.Event.TheVariants.{Byte, Silence}
 use Rattle.upload.specs.declared.Failure.{Failure}
 use Rattle.upload.specs.declared.Failure.TheVariants.{ProgramLength, FrameId}
 use Rattle.upload.specs.declared.Next.{Next}
-use Rattle.upload.specs.declared.Next.TheVariants.{Send, Wait, Loaded, Failed}
+use Rattle.upload.specs.declared.Next.TheVariants.{Send, Wait, Over}
 use Rattle.upload.specs.declared.Turn.{Turn}
 
 -- what follows the answer to frame k
@@ -125,10 +125,9 @@ not_failed job x why es e = let s : Failed why ≡ Loaded = rw (stays job (over 
 
 succeeds : (job : Job) (k : ℕ) (r : List ℕ) (t : ℕ) (next : Next) (es : List Event) → length r ≤ body_of r → is_over next ≡ false
     → (runs job (turn_of (held k r t) next) es).next ≡ Loaded → Rest job k r t es
-succeeds job k r t Loaded [] s o e = impossible cc
 succeeds job k r t Send [] s o e = impossible cc
 succeeds job k r t Wait [] s o e = impossible cc
-succeeds job k r t (Failed why) [] s o e = impossible cc
+succeeds job k r t (Over why) [] s o e = impossible cc
 succeeds job k r t next (e ∷ es) s o p =
     by_held_event job k r t e (λ (e : Event) (y : Turn). (runs job y es).next ≡ Loaded → Rest job k r t (e ∷ es)) s
     (λ x why q. not_failed job x why es q)

@@ -11,11 +11,10 @@ use Rattle.endian.specs.Lists.{same}
 use Rattle.client.specs.Replies.{taking}
 use Rattle.client.proofs.Numbers.{Given, given}
 use Rattle.client.proofs.Proved.{not_refusal}
-use Rattle.upload.specs.Upload.{turn_of, onward, after_last}
+use Rattle.upload.specs.Upload.{Loaded, Failed, turn_of, onward, after_last}
 use Rattle.upload.specs.declared.Job.{Job}
 use Rattle.upload.specs.declared.Exchange.{Exchange}
 use Rattle.upload.specs.declared.Failure.TheVariants.{OtherDigest}
-use Rattle.upload.specs.declared.Next.TheVariants.{Loaded, Failed}
 
 -- its frame is one of the program's
 pub taken_given : (n id k : ℕ) (r : List ℕ) → (taking n id k r).number ≡ 0 → Given n id k

@@ -11,7 +11,7 @@ use Rattle.protocol.specs.Commands.{length_ok, place_of}
 use Rattle.client.specs.Frames.{refusal}
 use Rattle.client.specs.Replies.{Taking, taking_as, taking}
 use Rattle.client.proofs.Proved.{client}
-use Rattle.upload.specs.Upload.{sent_frame, opening, turned}
+use Rattle.upload.specs.Upload.{Failed, sent_frame, opening, turned}
 use Rattle.upload.proofs.Replies.{taken_given, length_ok_bounds}
 use Rattle.upload.proofs.Turns.{by_reply, by_event}
 use Rattle.upload.specs.declared.Job.{Job}
@@ -19,7 +19,7 @@ use Rattle.upload.specs.declared.Exchange.{Exchange}
 use Rattle.upload.specs.declared.Event.{Event}
 use Rattle.upload.specs.declared.Failure.TheVariants.{ProgramLength, FrameId}
 use Rattle.upload.specs.declared.Next.{Next}
-use Rattle.upload.specs.declared.Next.TheVariants.{Send, Failed}
+use Rattle.upload.specs.declared.Next.TheVariants.{Send}
 use Rattle.upload.specs.declared.Turn.{Turn}
 
 -- frame 0, if there is a frame at all

@@ -9,14 +9,14 @@ use Rattle.endian.specs.Lists.{same}
 use Rattle.endian.proofs.Same.{same_eq}
 use Rattle.protocol.specs.Commands.{place_of}
 use Rattle.client.specs.Replies.{Taking, taking_as, taking}
-use Rattle.upload.specs.Upload.{turn_of, over, sent_frame, after_reply, came_of, onward, replied, with_byte, is_whole, received, with_silence, silent, turned}
+use Rattle.upload.specs.Upload.{Loaded, Failed, turn_of, over, sent_frame, after_reply, came_of, onward, replied, with_byte, is_whole, received, with_silence, silent, turned}
 use Rattle.upload.specs.declared.Job.{Job}
 use Rattle.upload.specs.declared.Exchange.{Exchange}
 use Rattle.upload.specs.declared.Event.{Event}
 use Rattle.upload.specs.declared.Event.TheVariants.{Byte, Silence, Closed}
 use Rattle.upload.specs.declared.Failure.{Failure}
 use Rattle.upload.specs.declared.Failure.TheVariants.{NoAnswer, LineClosed, UnexpectedReply, Refused, OtherDigest}
-use Rattle.upload.specs.declared.Next.TheVariants.{Send, Wait, Loaded, Failed}
+use Rattle.upload.specs.declared.Next.TheVariants.{Send, Wait}
 use Rattle.upload.specs.declared.Turn.{Turn}
 
 module _ (job : Job) (x : Exchange) where

@@ -10,6 +10,7 @@ use framing::Status;
 
 impl Job {
     // What is to be loaded: this program, with its digest.
+    #[tactic(auto, unfolding(crate::specs::Upload::job_of))]
     pub fn new(program: &[u8], id: u8, wait: u32) -> Job
         ensures { result ≡ job_of program.now id wait }
     {
@@ -22,6 +23,7 @@ impl Job {
     }
 
     // The first turn: frame 0 is to be sent, if the client can make it.
+    #[tactic(auto, unfolding(crate::specs::Upload::opening))]
     pub fn open(self) -> Turn
         ensures { result ≡ opening self }
     {
@@ -71,6 +73,7 @@ impl Job {
     }
 
     // A byte of the reply has come. No reply is longer than 129 bytes.
+    #[tactic(auto, unfolding(crate::specs::Upload::received))]
     fn receive(self, x: Exchange, b: u8) -> Turn
         ensures { result ≡ received self x b }
     {
@@ -92,6 +95,7 @@ impl Job {
     }
 
     // The reply is whole.
+    #[tactic(auto, unfolding(crate::specs::Upload::replied))]
     fn reply(self, x: Exchange) -> Turn
         ensures { result ≡ replied self x }
     {
@@ -138,6 +142,7 @@ impl Exchange {
     }
 
     // A tick has passed without a byte.
+    #[tactic(auto, unfolding(crate::specs::Upload::silent))]
     fn wait(self) -> Turn
         ensures { result ≡ silent self }
     {
