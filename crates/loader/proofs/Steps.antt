@@ -1,20 +1,25 @@
 -- Outcomes put together from what the callees ensure, over variables, so that what is rewritten stays small.
 use Prim.Native.Nat.{ℕ}
 use mathlib.Core.Bool.{Bool, true, false}
-use mathlib.Core.Path.{◌≡◌, sym, ap, ◌∙◌}
+use mathlib.Core.Path.{◌≡◌, refl, sym, ap, ◌∙◌}
 use mathlib.Core.List.{List, []}
 use lib.ListN.{length, take}
+use Rattle.std.specs.Prelude.{Err}
+use Rattle.std.specs.Bool.{then_some}
+use Rattle.cdi.specs.Cdi.{cdi_string, cdi_of, cdi_from}
 use Rattle.rfc7693.specs.Rfc7693.{blake2s}
 use Rattle.protocol.specs.Commands.{bytes_of, load_in, good_load, is_last}
 use Rattle.protocol.specs.Replies.{sent, load_reply, block_reply, digest_reply, put_in}
 use Rattle.protocol.specs.declared.Frame.{Frame}
 use Rattle.protocol.specs.declared.Load.{Load}
 use Rattle.protocol.specs.declared.Reply.{Reply}
-use Rattle.head.specs.Answers.{Result, result_in, replied, outcome_in}
+use Rattle.head.specs.Answers.{refusal_number, Result, result_in, replied, outcome_in, outcome}
 use Rattle.head.specs.Start.{decided}
-use Rattle.head.specs.Act.{frame_in, load_of, takes, loaded, load_answer, after_load, stored_in, next_block, between, finished_with, finished, acted_block}
+use Rattle.head.specs.Act.{frame_in, load_of, takes, loaded, load_answer, after_load, stored_in, next_block, between, finished_with, finished, acted_block, act_refusal, acted}
 use Rattle.head.specs.Steps.{frame_of}
 use Rattle.loader.specs.Steps.{Replies}
+use Rattle.head.proofs.Admitted.{numbered}
+use Rattle.head.specs.declared.Refusal.{Refusal}
 use Rattle.head.specs.declared.Progress.{Progress}
 use Rattle.head.specs.declared.State.{State}
 use Rattle.head.specs.declared.Step.{Step}
@@ -69,3 +74,18 @@ unfolding finished_with
 finished_as s d room ram uds x b room' uds' ed er ex eb =
     ex room' ram uds' ∙ ap (λ (y : Result). replied 129 room' y) (eb ram)
     ∙ ap (λ (r : List ℕ). replied 129 r (decided s.config s.progress d ram uds)) er ∙ ap (λ (y : List ℕ). finished_with y s room ram uds) ed
+
+-- a refused call
+pub refused_as : (s : State) (room ram uds : List ℕ) (w : Refusal) → refusal_number w ≡ act_refusal s (length room) (length ram) (length uds)
+    → outcome (Err w) s room ram uds ≡ acted s room ram uds
+unfolding acted
+refused_as s room ram uds w e = rw (← e, numbered w)
+
+-- a measured_id that is there where the CDI is chained, and a user secret that is there where one is used
+pub derived : (uds measured_id d uss : List ℕ) (chained used : Bool)
+    → cdi_from uds (then_some chained measured_id) d (then_some used uss) ≡ cdi_of uds chained measured_id d used uss
+unfolding cdi_of cdi_string
+derived uds measured_id d uss true true = refl
+derived uds measured_id d uss true false = refl
+derived uds measured_id d uss false true = refl
+derived uds measured_id d uss false false = refl

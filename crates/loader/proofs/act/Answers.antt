@@ -1,0 +1,36 @@
+-- A refusal is the number that admit_act gives; otherwise the call has what perform asks for.
+use mathlib.Core.Path.{◌≡◌, sym, ap, ◌∙◌}
+use lib.ListN.{length}
+use mathlib.Core.List.{List}
+use Prim.Native.Nat.{ℕ}
+use Rattle.std.proofs.lemmas.Result.{err_from_is_err_and}
+use Rattle.head.specs.Act.{request_of, performed}
+use Rattle.head.proofs.Ranges.{range_facts}
+use Rattle.head.proofs.Admitted.{act_admitted, act_admitted_as}
+use Rattle.loader.proofs.Steps.{refused_as}
+use Rattle.loader.proofs.act.Goals as goal
+
+pub returns-in_err-admit_act : goal.returns-in_err-admit_act
+returns-in_err-admit_act c =
+    let a = c.args in
+    let p = err_from_is_err_and c.from_residual.result c.from_residual.ensures.1 in
+    rw (p.1, p.2) (refused_as a.s a.room.now a.ram.now a.uds.now c.in_err-admit_act.field-0.0 c.in_err-admit_act.ensures)
+
+pub returns-in_default : goal.returns-in_default
+returns-in_default c =
+    let a = c.args in
+    let f = act_admitted a.s (length a.room.now) (length a.ram.now) (length a.uds.now) (sym c.in_ok-admit_act.ensures) in
+    absurd (c.in_default.ensures.cases f.words)
+
+pub perform-requires : goal.perform-requires
+perform-requires c =
+    let a = c.args in
+    let f = act_admitted a.s (length a.room.now) (length a.ram.now) (length a.uds.now) (sym c.in_ok-admit_act.ensures) in
+    let g = range_facts a.s f.range in
+    record { ram_value = rw f.ram_same g.progress; in_bounds = f.room_fits; ram_len_bound = rw f.ram_same g.ram_small }
+
+pub returns : goal.returns
+returns c =
+    let a = c.args in
+    rw (← (act_admitted_as a.s a.room.now a.ram.now a.uds.now c.in_ok-admit_act.ensures))
+    (c.perform.ensures ∙ ap (λ (u : List ℕ). performed (request_of a.s) a.s a.room.now a.ram.now u) c.in-Some.ensures.cases.same)
