@@ -105,15 +105,15 @@ impl Job {
         if let Status::Bad = t.status {
             return x.failed(Failure::Refused);
         }
-        if protocol::place_of(x.k) < self.len {
-            return Turn {
+        match t.digest {
+            None => Turn {
                 exchange: self.sent(x.k + 1),
                 next: Next::Send,
-            };
-        }
-        Turn {
-            exchange: x,
-            next: Next::Over(self.check(t.digest.unwrap_or([0; 32]))),
+            },
+            Some(theirs) => Turn {
+                exchange: x,
+                next: Next::Over(self.check(theirs)),
+            },
         }
     }
 
