@@ -3,9 +3,10 @@
 // Document 01, "Commands and replies", in the terms of specs/Cdi.antt.
 #![tactic(auto)]
 
-ghost use Rattle.std.specs.Prelude.{◌≡◌, ◌++◌, ◌∷◌, [], ◌≤◌, length};
-ghost use Rattle.rfc7693.specs.Rfc7693.{blake2s};
-ghost use Rattle.cdi.specs.Cdi.{domain_of, cdi_from};
+ghost use Rattle.std.specs.Prelude.{◌≡◌, ◌++◌, ◌∷◌, is_some};
+ghost use Rattle.std.specs.Option.{unwrap_or};
+ghost use Rattle.endian.specs.Lists.{zeros};
+ghost use Rattle.cdi.specs.Cdi.{domain_of, measurement_of, cdi_from};
 
 // The domain byte.
 fn domain(uss_used: bool, chained: bool) -> u8
@@ -31,18 +32,14 @@ fn string(uds: [u8; 32], domain: u8, measurement: [u8; 32], uss: [u8; 32]) -> [u
     b
 }
 
-// BLAKE2s-256 of a message.
-fn digest(msg: &[u8]) -> [u8; 32]
-    requires { length msg.now ≤ 97 }
-    ensures { result ≡ blake2s [] msg.now 32 }
+// The measurement: measured_id where the CDI is chained to one, and otherwise the program's digest.
+fn measurement(measured_id: Option<[u8; 32]>, digest: [u8; 32]) -> [u8; 32]
+    ensures { result ≡ measurement_of (is_some measured_id) (unwrap_or measured_id (zeros 32)) digest }
 {
-    let key = [0u8; 0];
-    let mut d = [0u8; 32];
-    let _ = blake2s::hash(&key, msg, &mut d);
-    d
+    measured_id.unwrap_or(digest)
 }
 
-// Derives the CDI: the measurement is measured_id where the CDI is chained to one, and otherwise the program's digest.
+// Derives the CDI, which is chained where there is a measured_id.
 pub fn derive(
     uds: [u8; 32],
     measured_id: Option<[u8; 32]>,
@@ -52,11 +49,11 @@ pub fn derive(
     ensures { result ≡ cdi_from uds measured_id digest uss }
 {
     let domain = domain(uss.is_some(), measured_id.is_some());
-    let measurement = measured_id.unwrap_or(digest);
-    let b = string(uds, domain, measurement, uss.unwrap_or([0; 32]));
+    let m = measurement(measured_id, digest);
+    let b = string(uds, domain, m, uss.unwrap_or([0; 32]));
     if uss.is_some() {
-        self::digest(&b)
+        blake2s::digest(&b)
     } else {
-        self::digest(&b[..65])
+        blake2s::digest(&b[..65])
     }
 }
