@@ -1,3 +1,4 @@
 pub mod Copies
 pub mod Slots
 pub mod Steps
+pub mod Rooms

@@ -51,8 +51,11 @@ pub fn act(
     ensures { outcome result s room.new ram.new uds.new ≡ acted s room.old ram.old uds.old }
 {
     head::admit_act(s, room.len(), ram.len(), uds.len())?;
+    let Some(front) = room.first_chunk_mut() else {
+        return Err(Refusal::ReplyRoom);
+    };
     let Some(uds) = uds.as_mut_array() else {
         return Err(Refusal::SecretLength);
     };
-    Ok(acting::perform(s, room, ram, uds))
+    Ok(acting::perform(s, front, ram, uds))
 }
