@@ -3,9 +3,11 @@
 // scalars and no array in memory: docs/PROVING.md, "Why the hash is fast".
 #![tactic(auto)]
 
-ghost use Rattle.std.specs.Prelude.{◌≡◌, ◌+◌, ◌*◌, ◌%◌, ◌^◌, ◌<◌, drop, if◌then◌else◌, bit_xor, slice_index};
-ghost use Rattle.rfc7693.specs.Rfc7693.{sigma, rotr, added, xor_rotated, G, selected, rounds, work_vector, F};
+ghost use Rattle.std.specs.Prelude.{◌≡◌, ◌+◌, ◌*◌, ◌<◌, ◌≤◌, drop, bit_xor, slice_index};
+ghost use Rattle.rfc7693.specs.Rfc7693.{sigma, added, xor_rotated, G, selected, rounds, work_vector, F};
 ghost use Rattle.compression.specs.Steps.{Places, four_mixings};
+
+use std::array;
 
 // RFC 7693, 2.6.
 pub const IV: [u32; 8] = [
@@ -38,28 +40,13 @@ const POSITIONS: [[usize; 4]; 8] = [
     [3, 4, 9, 14],
 ];
 
-// x rotated right by n bits.
-fn rotate_right(x: u32, n: u32) -> u32
-    requires { (0 < n) × (n < 32) }
-    ensures { result ≡ rotr x n }
-{
-    (x >> n) ^ (x << (32 - n))
-}
-
-// a + b + x modulo 2^32.
-fn sum3(a: u32, b: u32, x: u32) -> u32
-    ensures { result ≡ (a + b + x) % 2 ^ 32 }
-{
-    std::num::wrapping_add_u32(std::num::wrapping_add_u32(a, b), x)
-}
-
-// v[a] := v[a] + v[b] + x.
+// v[a] := v[a] + v[b] + x modulo 2^32.
 fn add(v: [u32; 16], a: usize, b: usize, x: u32) -> [u32; 16]
     requires { (a < 16) × (b < 16) }
     ensures { result ≡ added v a b x }
 {
     let mut w = v;
-    w[a] = sum3(w[a], w[b], x);
+    w[a] = w[a].wrapping_add(w[b]).wrapping_add(x);
     w
 }
 
@@ -69,7 +56,7 @@ fn xor_rotate(v: [u32; 16], d: usize, a: usize, n: u32) -> [u32; 16]
     ensures { result ≡ xor_rotated v d a n }
 {
     let mut w = v;
-    w[d] = rotate_right(w[d] ^ w[a], n);
+    w[d] = (w[d] ^ w[a]).rotate_right(n);
     w
 }
 
@@ -88,19 +75,12 @@ fn mix(v: [u32; 16], a: usize, b: usize, c: usize, d: usize, x: u32, y: u32) -> 
     xor_rotate(v7, b, c, 7)
 }
 
-fn word_at(m: &[u32; 16], i: u8) -> u32
-    requires { i < 16 }
-    ensures { result ≡ slice_index m.now i }
-{
-    m[i as usize]
-}
-
 // m[s[j]].
 fn select(m: &[u32; 16], s: [u8; 16], j: usize) -> u32
     requires { (j < 16) × Places 16 s }
     ensures { result ≡ selected m.now s j }
 {
-    word_at(m, s[j])
+    m[s[j] as usize]
 }
 
 // Mixing i of a round, at a row p of the table: G with the message words 2i and 2i + 1 of the order s.
@@ -123,139 +103,56 @@ fn apart(v: [u32; 16]) -> [u32; 16]
     ]
 }
 
-// The column step, the first half of a round: rows 0 to 3 of the table.
-fn column_step(m: &[u32; 16], s: [u8; 16], v: [u32; 16]) -> [u32; 16]
-    requires { Places 16 s }
-    ensures { result ≡ four_mixings m.now s 0 v }
+// Half a round: the column step from row 0 of the table, the diagonal step from row 4.
+fn half_round<const K: usize>(m: &[u32; 16], s: [u8; 16], v: [u32; 16]) -> [u32; 16]
+    requires { Places 16 s × (K ≤ 4) }
+    ensures { result ≡ four_mixings m.now s K v }
 {
     let p = POSITIONS;
-    let v1 = mix_row(m, s, v, 0, p[0]);
-    let v2 = mix_row(m, s, v1, 1, p[1]);
-    let v3 = mix_row(m, s, v2, 2, p[2]);
-    let v4 = mix_row(m, s, v3, 3, p[3]);
+    let v1 = mix_row(m, s, v, K, p[K]);
+    let v2 = mix_row(m, s, v1, K + 1, p[K + 1]);
+    let v3 = mix_row(m, s, v2, K + 2, p[K + 2]);
+    let v4 = mix_row(m, s, v3, K + 3, p[K + 3]);
     apart(v4)
 }
 
-// The diagonal step, the second half of a round: rows 4 to 7.
-fn diagonal_step(m: &[u32; 16], s: [u8; 16], v: [u32; 16]) -> [u32; 16]
-    requires { Places 16 s }
-    ensures { result ≡ four_mixings m.now s 4 v }
-{
-    let p = POSITIONS;
-    let v1 = mix_row(m, s, v, 4, p[4]);
-    let v2 = mix_row(m, s, v1, 5, p[5]);
-    let v3 = mix_row(m, s, v2, 6, p[6]);
-    let v4 = mix_row(m, s, v3, 7, p[7]);
-    apart(v4)
-}
-
-// Rounds 0 and 1. The rounds are written out and in halves, which is what LLVM inlines (docs/DECISIONS.md, 15), and two of them are a function
-// of their own, since only what LLVM has inlined shares its place on the stack.
-fn rounds_0_1(v: [u32; 16], m: &[u32; 16]) -> [u32; 16]
-    ensures { rounds m.now (drop 2 sigma) result ≡ rounds m.now (drop 0 sigma) v }
+// Rounds R and R + 1. The rounds are written out and in halves, which is what LLVM inlines (docs/DECISIONS.md, 15), and two of them are a
+// function of their own, since only what LLVM has inlined shares its place on the stack.
+fn two_rounds<const R: usize>(v: [u32; 16], m: &[u32; 16]) -> [u32; 16]
+    requires { R < 9 }
+    ensures { rounds m.now (drop (R + 2) sigma) result ≡ rounds m.now (drop R sigma) v }
 {
     let s = SIGMA;
-    let s0 = s[0];
-    let w = diagonal_step(m, s0, column_step(m, s0, v));
-    let s1 = s[1];
-    diagonal_step(m, s1, column_step(m, s1, w))
-}
-
-// Rounds 2 and 3.
-fn rounds_2_3(v: [u32; 16], m: &[u32; 16]) -> [u32; 16]
-    ensures { rounds m.now (drop 4 sigma) result ≡ rounds m.now (drop 2 sigma) v }
-{
-    let s = SIGMA;
-    let s2 = s[2];
-    let w = diagonal_step(m, s2, column_step(m, s2, v));
-    let s3 = s[3];
-    diagonal_step(m, s3, column_step(m, s3, w))
-}
-
-// Rounds 4 and 5.
-fn rounds_4_5(v: [u32; 16], m: &[u32; 16]) -> [u32; 16]
-    ensures { rounds m.now (drop 6 sigma) result ≡ rounds m.now (drop 4 sigma) v }
-{
-    let s = SIGMA;
-    let s4 = s[4];
-    let w = diagonal_step(m, s4, column_step(m, s4, v));
-    let s5 = s[5];
-    diagonal_step(m, s5, column_step(m, s5, w))
-}
-
-// Rounds 6 and 7.
-fn rounds_6_7(v: [u32; 16], m: &[u32; 16]) -> [u32; 16]
-    ensures { rounds m.now (drop 8 sigma) result ≡ rounds m.now (drop 6 sigma) v }
-{
-    let s = SIGMA;
-    let s6 = s[6];
-    let w = diagonal_step(m, s6, column_step(m, s6, v));
-    let s7 = s[7];
-    diagonal_step(m, s7, column_step(m, s7, w))
-}
-
-// Rounds 8 and 9.
-fn rounds_8_9(v: [u32; 16], m: &[u32; 16]) -> [u32; 16]
-    ensures { rounds m.now (drop 10 sigma) result ≡ rounds m.now (drop 8 sigma) v }
-{
-    let s = SIGMA;
-    let s8 = s[8];
-    let w = diagonal_step(m, s8, column_step(m, s8, v));
-    let s9 = s[9];
-    diagonal_step(m, s9, column_step(m, s9, w))
+    let s0 = s[R];
+    let w = half_round::<4>(m, s0, half_round::<0>(m, s0, v));
+    let s1 = s[R + 1];
+    half_round::<4>(m, s1, half_round::<0>(m, s1, w))
 }
 
 // The ten rounds.
 fn rounds(v: [u32; 16], m: &[u32; 16]) -> [u32; 16]
     ensures { result ≡ rounds m.now sigma v }
 {
-    let v2 = rounds_0_1(v, m);
-    let v4 = rounds_2_3(v2, m);
-    let v6 = rounds_4_5(v4, m);
-    let v8 = rounds_6_7(v6, m);
-    rounds_8_9(v8, m)
+    let v2 = two_rounds::<0>(v, m);
+    let v4 = two_rounds::<2>(v2, m);
+    let v6 = two_rounds::<4>(v4, m);
+    let v8 = two_rounds::<6>(v6, m);
+    two_rounds::<8>(v8, m)
 }
 
-// x, with all bits inverted for the last block.
-fn inverted_if(last: bool, x: u32) -> u32
-    ensures { result ≡ (if last then bit_xor x 4294967295 else x) }
-{
-    if last { x ^ 0xffffffff } else { x }
-}
-
-// The working vector at the start.
+// The working vector at the start; in the last block all bits of v[14] are inverted.
 fn work_vector(h: [u32; 8], t: u64, last: bool) -> [u32; 16]
     ensures { result ≡ work_vector h t last }
 {
-    let iv = IV;
-    let lo = (t % 4294967296) as u32;
-    let hi = (t / 4294967296) as u32;
-    [
-        h[0],
-        h[1],
-        h[2],
-        h[3],
-        h[4],
-        h[5],
-        h[6],
-        h[7],
-        iv[0],
-        iv[1],
-        iv[2],
-        iv[3],
-        iv[4] ^ lo,
-        iv[5] ^ hi,
-        inverted_if(last, iv[6]),
-        iv[7],
-    ]
-}
-
-// Word i of the next state: h[i] ^ v[i] ^ v[i + 8].
-fn next_word(h: [u32; 8], v: [u32; 16], i: usize) -> u32
-    requires { i < 8 }
-    ensures { result ≡ bit_xor (bit_xor (slice_index h i) (slice_index v i)) (slice_index v (i + 8)) }
-{
-    h[i] ^ v[i] ^ v[i + 8]
+    let mut v = [0; 16];
+    v[..8].copy_from_slice(&h);
+    v[8..].copy_from_slice(&IV);
+    v[12] ^= (t % 4294967296) as u32;
+    v[13] ^= (t / 4294967296) as u32;
+    if last {
+        v[14] ^= u32::MAX;
+    }
+    v
 }
 
 // The compression function F on the sixteen message words of a block.
@@ -263,14 +160,10 @@ pub fn compress(h: [u32; 8], m: &[u32; 16], t: u64, last: bool) -> [u32; 8]
     ensures { result ≡ F h m.now t last }
 {
     let v = rounds(work_vector(h, t, last), m);
-    [
-        next_word(h, v, 0),
-        next_word(h, v, 1),
-        next_word(h, v, 2),
-        next_word(h, v, 3),
-        next_word(h, v, 4),
-        next_word(h, v, 5),
-        next_word(h, v, 6),
-        next_word(h, v, 7),
-    ]
+    array::from_fn(|i: usize| -> u32
+        requires { i < 8 }
+        ensures { result ≡ bit_xor (bit_xor (slice_index h i) (slice_index v i)) (slice_index v (i + 8)) }
+    {
+        h[i] ^ v[i] ^ v[i + 8]
+    })
 }

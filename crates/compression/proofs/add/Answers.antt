@@ -1,7 +1,8 @@
--- The code is the definition, with what `sum3` ensures for the sum.
+-- The code is the definition.
+use Rattle.std.proofs.Common.{rules}
 use Rattle.rfc7693.specs.Rfc7693.{added}
 use Rattle.compression.proofs.add.Goals as goal
 
 pub returns : goal.returns
 unfolding added
-returns c = rw c.sum3.ensures
+returns c = search rules

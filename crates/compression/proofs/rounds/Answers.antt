@@ -5,4 +5,4 @@ use Rattle.compression.proofs.rounds.Goals as goal
 
 pub returns : goal.returns
 unfolding rounds sigma
-returns c = c.rounds_8_9.ensures ∙ c.rounds_6_7-v8.ensures ∙ c.rounds_4_5-v6.ensures ∙ c.rounds_2_3-v4.ensures ∙ c.rounds_0_1-v2.ensures
+returns c = c.two_rounds.ensures ∙ c.two_rounds-v8.ensures ∙ c.two_rounds-v6.ensures ∙ c.two_rounds-v4.ensures ∙ c.two_rounds-v2.ensures
