@@ -10,8 +10,11 @@ use lib.ListN.{length}
 use Rattle.endian.proofs.Cases.{impossible}
 use Rattle.rfc7693.specs.Rfc7693.{blake2s}
 use Rattle.endian.specs.Lists.{zeros}
-use Rattle.blake2s.specs.Hash.{hash_number, hash_output}
-use Rattle.blake2s.specs.Stream.{in_range, update_number, finish_number}
+use Rattle.std.specs.Prelude.{Result, Ok, Err, IsErr, IsErrAnd}
+use Rattle.blake2s.specs.Hash.{refusal_number, number_of, hash_number, hash_output}
+use Rattle.blake2s.specs.declared.Refusal.{Refusal}
+use Rattle.blake2s.specs.declared.Refusal.TheVariants.{ContextRange, OutputLength, KeyLength, MessageLength}
+use Rattle.blake2s.specs.Stream.{in_range, refused_context, context_of, update_number, finish_number}
 use Rattle.blake2s.specs.declared.Context.{Context}
 
 module _ (kk ll nn : ℕ) where
@@ -46,6 +49,21 @@ digest_32 msg out h e = rw (e, hash_accepted 0 (length msg) 32 (omega arith) (om
 -- as the function `digest` gives it
 pub digest_zeros : (msg : List ℕ) → length msg ≤ 4294967295 → hash_output [] msg (zeros 32) ≡ blake2s [] msg 32
 digest_zeros msg h = digest_32 msg (zeros 32) h refl
+
+-- a refusal has another number than 0, which the call that it is handed on by answers too
+pub refused : (r : Refusal) → refusal_number r ≡ 0 → ⊥
+refused ContextRange e = omega arith
+refused OutputLength e = omega arith
+refused KeyLength e = omega arith
+refused MessageLength e = omega arith
+
+pub handed_on : {A : Type 0} (x : Result A Refusal) (r : Refusal) → IsErrAnd x (λ e. e ≡ r) → number_of x ≡ refusal_number r
+handed_on (Err e) r h = ap refusal_number h
+handed_on (Ok a) r h = absurd h
+
+pub no_context : (x : Result Context Refusal) → IsErr x → context_of x ≡ refused_context
+no_context (Err e) h = refl
+no_context (Ok c) h = impossible cc
 
 -- the lengths of a call that is accepted
 pub record Lengths (kk ll nn : ℕ) : Type 0 where
