@@ -20,7 +20,7 @@ TARGET = {
 }
 ATTRIBUTES = '"probe-stack"="inline-asm" "stack-probe-size"="3072" "target-cpu"="x86-64-v2"'
 # Called several times, and large when written out: the steps of the hash twenty times, the hash three.
-CALLED = ['"compression::column_step"', '"compression::diagonal_step"', '"blake2s::stream::whole"']
+CALLED = ['"compression::half_round::<=0>"', '"compression::half_round::<=4>"', '"blake2s::stream::whole"']
 MOST = 16  # an alignment that none is above
 
 NAME = r'@("[^"]+"|[\w.$]+)'
