@@ -1,24 +1,38 @@
 -- The output turn by turn: what the promises of `open` and `advance` cite. That the turns fold to the output of specs/Output.antt is `folds` in
 -- specs/Theorems.antt.
-use Rattle.std.specs.Prelude.{ℕ, ◌+◌, ◌-◌, ◌^◌, Bool, true, cond, List, [], ◌∷◌, ◌++◌, eqb, ltb, length, take, drop}
+use Rattle.std.specs.Prelude.{ℕ, ◌+◌, ◌-◌, ◌^◌, Bool, cond, Option, None, Some, Result, Ok, Err, List, [], ◌∷◌, eqb, ltb, length, take, drop}
 use Rattle.endian.specs.Lists.{zeros, padded}
-use Rattle.head.specs.Answers.{Outcome}
+use Rattle.head.specs.Answers.{Report, Outcome, refusal_number, report_of, cdi_in}
+use Rattle.head.specs.declared.Refusal.{Refusal}
+use Rattle.head.specs.declared.Answer.{Answer}
 use Rattle.text.specs.Text.{text_of}
-use Rattle.printer.specs.Lines.{waiting_line, error_line}
+use Rattle.printer.specs.Lines.{waiting_line, error_line, end_line}
 use Rattle.printer.specs.Output.{after_begin, after_byte, call_text, is_over, Output, behind}
 use Rattle.printer.specs.declared.turns.Session.{Session}
 use Rattle.printer.specs.declared.turns.Next.{Next}
 use Rattle.printer.specs.declared.turns.Next.TheVariants.{Byte, End}
 use Rattle.printer.specs.declared.turns.Turn.{Turn}
 
+-- the session, unless what a call reports ends it
+abbrev pub going : Report → Session → Option Session
+going r s = cond (is_over r) None (Some s)
+
 -- the turn of a call, with which n bytes were received
 abbrev pub turn_of : ℕ → Outcome → Turn
 turn_of n o =
-    record {
-      session = record { state = o.state; words = o.uds; received = n };
-      text = text_of (call_text o);
-      over = is_over o.report;
-    }
+    record { text = text_of (call_text o); session = going o.report (record { state = o.state; words = o.uds; received = n }) }
+
+-- the CDI that an answer has
+abbrev pub cdi_of : Result Answer Refusal → List ℕ
+cdi_of (Ok a) = cdi_in a
+cdi_of (Err r) = zeros 32
+
+-- the turn of a call that was refused, and of one without a reply
+abbrev pub refused_turn : Refusal → Turn
+refused_turn r = record { text = text_of (error_line (refusal_number r)); session = None }
+
+abbrev pub unreplied_turn : Session → Answer → Turn
+unreplied_turn s a = record { text = text_of (end_line (report_of a) (cdi_in a)); session = going (report_of a) s }
 
 -- begin's turn, with all of the first 296 bytes
 abbrev pub begin_turn : List ℕ → List ℕ → Turn
@@ -27,11 +41,11 @@ begin_turn front ram = turn_of 0 (after_begin front ram)
 -- the first turn, with so many bytes got: under 296 there is no session
 unfoldable pub opening : List ℕ → ℕ → List ℕ → Turn
 opening front got ram =
-    cond (ltb got 296) (record { session = (begin_turn front ram).session; text = text_of (error_line 1); over = true }) (begin_turn front ram)
+    cond (ltb got 296) (record { text = text_of (error_line 1); session = None }) (begin_turn front ram)
 
 -- the input has ended
 abbrev pub waited : Session → Turn
-waited s = record { session = s; text = text_of (waiting_line s.received); over = true }
+waited s = record { text = text_of (waiting_line s.received); session = None }
 
 -- the count has 64 bits: a session that has received 2^64 - 1 bytes ends as if the input did
 abbrev pub is_full : Session → Bool
@@ -53,12 +67,17 @@ ram_after s (Byte b) ram = cond (is_full s) ram (after_byte s.state s.words ram 
 abbrev pub lines : Turn → List ℕ
 lines t = take t.text.len t.text.bytes
 
--- from the turn t on, with n bytes read: until a turn is over, the next byte or the end of the input makes the next turn
+-- from a session on, with n bytes read: until there is none, the next byte or the end of the input makes the next turn
+abbrev pub goes : List ℕ → Option Session → List ℕ → ℕ → Output
+goes bytes None ram n = record { printed = []; read = n }
+goes [] (Some s) ram n = record { printed = lines (turned s End ram); read = n }
+goes (b ∷ bytes) (Some s) ram n =
+    let t = turned s (Byte b) ram in
+    behind (lines t) (goes bytes t.session (ram_after s (Byte b) ram) (n + 1))
+
+-- from the turn t on
 abbrev pub loop : Turn → List ℕ → ℕ → List ℕ → Output
-loop t ram n [] = record { printed = lines t ++ cond t.over [] (lines (turned t.session End ram)); read = n }
-loop t ram n (b ∷ bytes) =
-    cond t.over (record { printed = lines t; read = n })
-    (behind (lines t) (loop (turned t.session (Byte b) ram) (ram_after t.session (Byte b) ram) (n + 1) bytes))
+loop t ram n bytes = behind (lines t) (goes bytes t.session ram n)
 
 -- the first turn takes the first 296 bytes at once
 abbrev pub turns : List ℕ → ℕ → Output

@@ -1,51 +1,46 @@
-// The lines that are printed, as texts: document 01, "Session printer". Each has its end of line.
-ghost use Rattle.std.specs.Prelude.{◌≡◌, [], ◌∷◌, ◌++◌, take};
-ghost use Rattle.head.specs.Answers.{report_of};
-ghost use Rattle.text.specs.Text.{decimal_of, added, text_of};
-ghost use Rattle.printer.specs.Lines.{reply_line, start_line, end_line};
+// The lines that are printed: document 01, "Session printer". Each has its end of line.
+ghost use Rattle.head.specs.Answers.{reported};
+ghost use Rattle.printer.specs.Lines.{end_line};
+ghost use Rattle.printer.specs.Output.{reply_text};
+ghost use Rattle.printer.specs.Turns.{cdi_of};
 
-use loader::Answer;
-use text::Text;
+use loader::{Answer, Refusal};
+use text::{Hex, Show, Text};
 
-// The front of a line: its letter and a space.
-fn letter(t: Text, b: u8) -> Text
-    ensures { result ≡ added t (b ∷ 32 ∷ []) }
-{
-    text::put(text::put(t, b), b' ')
+// A reply: the first n bytes of the room. None if n is 0.
+#[derive(Clone, Copy)]
+pub struct Reply {
+    pub room: [u8; 129],
+    pub n: usize,
 }
 
-// The line of a letter and a number.
-pub fn numbered(t: Text, b: u8, n: u64) -> Text
-    ensures { result ≡ added t (b ∷ 32 ∷ decimal_of n ++ 10 ∷ []) }
-{
-    text::put(text::put_decimal(letter(t, b), n), b'\n')
-}
+impl Show for Reply {
+    ghost words = { λ r. reply_text r.room r.n };
 
-// A reply: the first n bytes of the room.
-pub fn reply_line(room: [u8; 129], n: usize) -> Text
-    ensures { result ≡ text_of (reply_line (take n room)) }
-{
-    let begun = letter(text::empty(), b'R');
-    text::put(text::put_hex(begun, endian::first(&room, n)), b'\n')
-}
-
-// A start.
-fn start_line(t: Text, size: u32, cdi: [u8; 32]) -> Text
-    ensures { result ≡ added t (start_line size cdi) }
-{
-    let sized = text::put(text::put_decimal(letter(t, b'S'), size as u64), b' ');
-    text::put(text::put_hex(sized, &cdi), b'\n')
+    fn show(&self, t: &mut Text) {
+        if self.n == 0 {
+            "".show(t)
+        } else {
+            ("R ", Hex(endian::first(&self.room, self.n)), "\n").show(t)
+        }
+    }
 }
 
 // The last line of a session that is over; none for one that goes on.
-pub fn end_line(t: Text, answer: Answer, cdi: [u8; 32]) -> Text
-    ensures { result ≡ added t (end_line (report_of answer) cdi) }
-{
-    match answer {
-        Answer::Continue => t,
-        Answer::Whole => t,
-        Answer::Refused(why) => numbered(t, b'E', loader::refusal_number(why) as u64),
-        Answer::Stopped(why) => numbered(t, b'F', loader::stop_number(why) as u64),
-        Answer::Started { address: _, size } => start_line(t, size, cdi),
+#[derive(Clone, Copy)]
+pub struct Ending(pub Result<Answer, Refusal>);
+
+impl Show for Ending {
+    ghost words = { λ e. end_line (reported e.0) (cdi_of e.0) };
+
+    fn show(&self, t: &mut Text) {
+        match self.0 {
+            Ok(Answer::Continue | Answer::Whole) => "".show(t),
+            Ok(Answer::Stopped(why)) => ("F ", u8::from(why), "\n").show(t),
+            Ok(Answer::Started(start)) => {
+                ("S ", start.size, " ", Hex(&start.cdi), "\n").show(t)
+            }
+            Err(why) => ("E ", u8::from(why), "\n").show(t),
+        }
     }
 }

@@ -1,15 +1,14 @@
 // A session from byte to byte, and what is printed of it.
-ghost use Rattle.std.specs.Prelude.{◌≡◌, []};
+ghost use Rattle.std.specs.Prelude.{◌≡◌};
 ghost use Rattle.endian.specs.Lists.{zeros};
-ghost use Rattle.head.specs.Answers.{report_of, replied};
+ghost use Rattle.head.specs.Answers.{report_of};
 ghost use Rattle.head.specs.Act.{acted};
-ghost use Rattle.text.specs.Text.{text_of};
-ghost use Rattle.printer.specs.Output.{reply_text, is_over};
-ghost use Rattle.printer.specs.Turns.{turn_of, begin_turn, opening, turned, ram_after, waited};
+ghost use Rattle.printer.specs.Turns.{turn_of, going, refused_turn, unreplied_turn, begin_turn, opening, turned, ram_after, waited};
 ghost use Rattle.printer.specs.declared.turns.Next.TheVariants as next;
 
-use super::{input, lines};
-use loader::{Answer, State};
+use super::input;
+use super::lines::{Ending, Reply};
+use loader::{Acted, Answer, Refusal, State, Step};
 use text::Text;
 
 // A head between two bytes, with its device secret.
@@ -28,12 +27,11 @@ pub enum Next {
     End,
 }
 
-// What is to be written now, and whether that is all; if not, the session that the next turn goes on with.
+// What is to be written now, and the session that the next turn goes on with; None if that is all.
 #[derive(Clone, Copy)]
 pub struct Turn {
-    pub session: Session,
     pub text: Text,
-    pub over: bool,
+    pub session: Option<Session>,
 }
 
 // The first turn: of the first 296 bytes of the input so many were got, and zeros stand for the others. Only a RAM that no head can have is
@@ -42,16 +40,13 @@ pub fn open(front: [u8; 296], got: usize, ram: &mut [u8]) -> Turn
     ensures turn { result ≡ opening front got ram.old }
     ensures ram { ram.new ≡ ram.old }
 {
-    let t = begin(front, ram);
     if got < 296 {
-        let session = t.session;
         return Turn {
-            session,
-            text: lines::numbered(text::empty(), b'E', 1),
-            over: true,
+            text: Text::of("E 1\n"),
+            session: None,
         };
     }
-    t
+    begin(front, ram)
 }
 
 // Begins with record, UDS and UDI; nothing is in flash, so RAM stays.
@@ -60,31 +55,51 @@ fn begin(front: [u8; 296], ram: &mut [u8]) -> Turn
     ensures ram { ram.new ≡ ram.old }
 {
     let mut words = input::words_of(front);
-    let begun = input::begin(front, ram, &mut words);
-    let answer = begun.answer;
-    let state = begun.state;
-    let cdi = begun.cdi;
-    let session = Session {
-        state,
-        words,
-        received: 0,
-    };
-    without_reply(session, answer, cdi)
-}
-
-// The turn of a call that has no reply.
-fn without_reply(session: Session, answer: Answer, cdi: [u8; 32]) -> Turn
-    ensures { result ≡ turn_of session.received (replied 0 [] (record { report = report_of answer; state = session.state; cdi = cdi; digest = zeros 32; ram = []; uds = session.words })) }
-{
-    Turn {
-        session,
-        text: lines::end_line(text::empty(), answer, cdi),
-        over: is_over(answer),
+    match input::begin(front, ram, &mut words) {
+        Ok(Step { answer, state }) => {
+            let session = Session {
+                state,
+                words,
+                received: 0,
+            };
+            after(session, answer)
+        }
+        Err(why) => refused(why),
     }
 }
 
-// Every other turn, with the RAM that the turn before left. Of a session from `open`, a call is refused only where RAM has another length
-// or the session is over; it is then printed as `E` and the number.
+// The turn of a call that is refused.
+fn refused(why: Refusal) -> Turn
+    ensures { result ≡ refused_turn why }
+{
+    Turn {
+        text: Text::of(Ending(Err(why))),
+        session: None,
+    }
+}
+
+// The turn of a call that has no reply.
+fn after(session: Session, answer: Answer) -> Turn
+    ensures { result ≡ unreplied_turn session answer }
+{
+    Turn {
+        text: Text::of(Ending(Ok(answer))),
+        session: going(session, answer),
+    }
+}
+
+// The session, unless the answer ends it.
+fn going(session: Session, answer: Answer) -> Option<Session>
+    ensures { result ≡ going (report_of answer) session }
+{
+    match answer {
+        Answer::Continue | Answer::Whole => Some(session),
+        Answer::Stopped(_) | Answer::Started(_) => None,
+    }
+}
+
+// Every other turn, with the RAM that the turn before left. Of a session from `open`, a call is refused only where RAM has another length; it is
+// then printed as `E` and the number.
 pub fn advance(s: Session, next: Next, ram: &mut [u8]) -> Turn
     ensures turn { result ≡ turned s next ram.old }
     ensures ram { ram.new ≡ ram_after s next ram.old }
@@ -100,9 +115,8 @@ fn wait(s: Session) -> Turn
     ensures { result ≡ waited s }
 {
     Turn {
-        session: s,
-        text: lines::numbered(text::empty(), b'W', s.received),
-        over: true,
+        text: Text::of(("W ", s.received, "\n")),
+        session: None,
     }
 }
 
@@ -115,19 +129,20 @@ fn receive(s: Session, byte: u8, ram: &mut [u8]) -> Turn
     if s.received == u64::MAX {
         return wait(s);
     }
-    let g = loader::gather(s.state, byte);
-    let answer = g.answer;
-    let state = g.state;
-    let words = s.words;
-    let session = Session {
-        state,
-        words,
-        received: s.received + 1,
-    };
-    let Answer::Whole = answer else {
-        return without_reply(session, answer, [0; 32]);
-    };
-    act(session, ram)
+    match loader::gather(s.state, byte) {
+        Ok(Step { answer, state }) => {
+            let session = Session {
+                state,
+                received: s.received + 1,
+                ..s
+            };
+            match answer {
+                Answer::Whole => act(session, ram),
+                answer => after(session, answer),
+            }
+        }
+        Err(why) => refused(why),
+    }
 }
 
 // Acts on the frame that is whole.
@@ -137,39 +152,18 @@ fn act(s: Session, ram: &mut [u8]) -> Turn
 {
     let mut words = s.words;
     let mut room = [0u8; 129];
-    let r = loader::act(s.state, &mut room, ram, &mut words);
-    let answer = r.answer;
-    let state = r.state;
-    let cdi = r.cdi;
-    Turn {
-        session: Session {
+    match loader::act(s.state, &mut room, ram, &mut words) {
+        Ok(Acted {
+            answer,
+            reply: n,
             state,
-            words,
-            received: s.received,
-        },
-        text: lines::end_line(reply(room, r.reply), answer, cdi),
-        over: is_over(answer),
-    }
-}
-
-// The line of a reply of n bytes; none if n is 0.
-fn reply(room: [u8; 129], n: usize) -> Text
-    ensures { result ≡ text_of (reply_text room n) }
-{
-    if n == 0 {
-        return text::empty();
-    }
-    lines::reply_line(room, n)
-}
-
-fn is_over(answer: Answer) -> bool
-    ensures { result ≡ is_over (report_of answer) }
-{
-    match answer {
-        Answer::Continue => false,
-        Answer::Whole => false,
-        Answer::Refused(_) => true,
-        Answer::Stopped(_) => true,
-        Answer::Started { .. } => true,
+        }) => {
+            let session = Session { state, words, ..s };
+            Turn {
+                text: Text::of((Reply { room, n }, Ending(Ok(answer)))),
+                session: going(session, answer),
+            }
+        }
+        Err(why) => refused(why),
     }
 }

@@ -1,9 +1,0 @@
--- No reply has 0 bytes.
-use borrow.Author.Tests.{eq-eqb, ne_eqb}
-use Rattle.printer.proofs.turns.reply.Goals as goal
-
-pub returns-then-n-eq0 : goal.returns-then-n-eq0
-returns-then-n-eq0 c = rw (eq-eqb _ 0 c.if-n-eq0.true) c.empty.ensures
-
-pub returns : goal.returns
-returns c = rw (ne_eqb _ 0 c.if-n-eq0.false) c.reply_line.ensures
