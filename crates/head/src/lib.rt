@@ -36,7 +36,7 @@ pub struct Incoming {
     pub header: u8,
     // How many of its bytes have come, the header among them; 0 between frames.
     pub got: u8,
-    // Its body, if it is for the firmware.
+    // Its body, if it is for the firmware. Kept as an array with a count: document 01 wants fixed memory, and C lends the state so.
     pub body: [u8; 128],
 }
 
@@ -50,7 +50,7 @@ pub struct Config {
     pub digests: Digests,
     // Whether the program must have one of these digests.
     pub verify: bool,
-    // Whether the measurement is measured_id (RESET_SEED), and not the program's digest.
+    // Whether the measurement is measured_id (RESET_SEED), and not the program's digest. Kept as a flag: C's state has the bytes either way.
     pub chained: bool,
 }
 
@@ -62,6 +62,7 @@ pub struct Progress {
     // The number of the block that is waited for.
     pub block: u32,
     pub uss: [u8; 32],
+    // Kept as a flag beside it: the state that C lends has the bytes of a load either way.
     pub uss_used: bool,
     pub phase: Phase,
 }

@@ -23,7 +23,7 @@ returns-in_err-admit_act c =
 pub returns-in_default : goal.returns-in_default
 returns-in_default c =
     let a = c.args in
-    let f = act_admitted a.s (length a.room.now) (length a.ram.now) (length a.uds.now) (sym c.in_ok-admit_act.ensures) in
+    let f = act_admitted _ _ _ _ (sym c.in_ok-admit_act.ensures) in
     let fits : 129 ≤ length a.room.now = f.room_fits in
     let short : length a.room.now < 129 = c.in_default.ensures.cases in
     absurd (omega arith)
@@ -31,20 +31,20 @@ returns-in_default c =
 pub returns-in_default-as_mut_array : goal.returns-in_default-as_mut_array
 returns-in_default-as_mut_array c =
     let a = c.args in
-    let f = act_admitted a.s (length a.room.now) (length a.ram.now) (length a.uds.now) (sym c.in_ok-admit_act.ensures) in
+    let f = act_admitted _ _ _ _ (sym c.in_ok-admit_act.ensures) in
     absurd (c.in_default-as_mut_array.ensures.cases f.words)
 
 pub perform-requires : goal.perform-requires
 perform-requires c =
     let a = c.args in
-    let f = act_admitted a.s (length a.room.now) (length a.ram.now) (length a.uds.now) (sym c.in_ok-admit_act.ensures) in
+    let f = act_admitted _ _ _ _ (sym c.in_ok-admit_act.ensures) in
     let g = range_facts a.s f.range in
     record { ram_value = rw f.ram_same g.progress; ram_len_bound = rw f.ram_same g.ram_small }
 
 pub returns : goal.returns
 returns c =
     let a = c.args in
-    let f = act_admitted a.s (length a.room.now) (length a.ram.now) (length a.uds.now) (sym c.in_ok-admit_act.ensures) in
+    let f = act_admitted _ _ _ _ (sym c.in_ok-admit_act.ensures) in
     let r = a.room.now in
     let q = request_of a.s in
     ap (behind (drop 129 r))
