@@ -13,11 +13,16 @@ use borrow.Author.Tests.{ltb-true, ltb-false}
 use Rattle.spool_block.specs.Block.{is_good}
 use Rattle.spool.specs.Reading.{blocks_in, block_at}
 use Rattle.spool.specs.Salvage.{blocks_of, Mended, kept, replaced_by, mended, mended_at}
-use Rattle.spool.specs.Steps.{FirstGood}
 use Rattle.spool.proofs.Firsts.{first_good_is, first_none}
 
 pub block_whole : (s : List ℕ) (i : ℕ) → i < blocks_in s → length (block_at s i) ≡ 512
 block_whole s i h = length-take-le 512 (drop (512 * i) s) (rw length-drop (omega arith))
+
+-- spare k is the first that is good at place i of n; where none is, k is as many as there are
+pub record FirstGood (n i : ℕ) (spares : List ℕ) (k : ℕ) : Type 0 where
+  pub within : k ≤ blocks_in spares
+  pub good : k < blocks_in spares → is_good n i (block_at spares k) ≡ true
+  pub before : (j : ℕ) → j < k → is_good n i (block_at spares j) ≡ false
 
 module _ (n i : ℕ) where
   pub mended_kept : (sp : List (List ℕ)) (b : List ℕ) → is_good n i b ≡ true → mended n i sp b ≡ kept b

@@ -13,9 +13,7 @@ use Rattle.endian.specs.Fields.{number_in}
 use Rattle.protocol.specs.Commands.{length_ok}
 use Rattle.protocol.specs.Replies.{put_in}
 use Rattle.spool_block.specs.Block.{number_field, count_in, good_check, good_count, good_filler, block_refusal}
-use Rattle.spool.specs.Answers.{number_of, Outcome, outcome, outcome_of, given, with_count}
-use Rattle.spool.specs.Steps.{count_after}
-use Rattle.spool.specs.declared.Done.{Done}
+use Rattle.spool.specs.Answers.{outcome, given}
 use Rattle.spool.specs.Theorems.{GoodLength}
 use Rattle.spool.specs.Reading.{blocks_in, block_at, refusal_at, earliest, bad_length, read_refusal, look_refusal}
 use Rattle.spool.specs.Writing.{spool_blocks, write_refusal}
@@ -137,14 +135,6 @@ list_fault (suc n) f h = one (eqb (f 0) 0) (h 0) (list_fault n (λ i. f (suc i))
 pub earliest_fault : (n : ℕ) (s : List ℕ) → Fault (earliest (each n (refusal_at s)))
 earliest_fault n s = list_fault n (refusal_at s) (at_fault s)
 
-pub look_range : (s : List ℕ) (i : ℕ) → (look_refusal s i ≡ 0 → ⊥) → (50 ≤ look_refusal s i) × (look_refusal s i ≤ 53)
-unfolding look_refusal
-look_range s i = go (bad_length (length s) || not (ltb i (blocks_in s)))
-  where
-    go : (t : Bool) → (cond t 50 (refusal_at s i) ≡ 0 → ⊥) → (50 ≤ cond t 50 (refusal_at s i)) × (cond t 50 (refusal_at s i) ≤ 53)
-    go true h = (omega arith, omega arith)
-    go false h = let f = at_fault s i h in (omega (arith, f.0), omega (arith, f.1))
-
 -- ---- what a call settles
 
 module _ (k : ℕ) (bytes room : List ℕ) where
@@ -155,15 +145,6 @@ module _ (k : ℕ) (bytes room : List ℕ) where
   pub given_all : k ≡ 0 → given k bytes room ≡ outcome 0 (length bytes) (put_in room bytes)
   unfolding given
   given_all e = rw e
-
--- with a lent count
-pub told : (d : Done) (room : List ℕ) (x : Outcome) (len : ℕ) → outcome_of d room ≡ x → outcome (number_of d.answer) (count_after d len) room ≡ with_count x len
-unfolding with_count
-told d room x len e = go (eqb (number_of d.answer) 0) ∙ ap (λ (y : Outcome). cond (eqb y.number 0) y (outcome y.number len y.room)) e
-  where
-    go : (t : Bool) → outcome (number_of d.answer) (cond t d.len len) room ≡ cond t (outcome_of d room) (outcome (number_of d.answer) len room)
-    go true = refl
-    go false = refl
 
 module _ (s spares report : List ℕ) where
   pub salvage_refused : (k : ℕ) → salvage_refusal (length s) (length spares) (length report) ≡ k → (k ≡ 0 → ⊥) → salvaging s spares report ≡ salvaging_as k s report

@@ -21,8 +21,11 @@ use Rattle.spool.specs.Reading.{blocks_in, block_at, refusal_at, bad_length, pro
 use Rattle.spool.specs.Writing.{spool_blocks, spool_of, writing}
 use Rattle.spool.specs.Salvage.{first_good, mended, mended_at, salvage_refusal, salvaging_as, salvaging}
 use Rattle.spool.specs.Theorems.{IsProgram, GoodLength, Fate, keeps, replaces, loses, Salvaged, Spools}
-use Rattle.spool.specs.declared.Answer.{Answer}
-use Rattle.spool.specs.declared.Answer.TheVariants.{Accepted, ProgramLength, SpoolLength, BlockCheck, BlockNumber, BlockCount, RoomLength}
+use Rattle.std.specs.Prelude.{Result, Ok, Err}
+use Rattle.spool_block.specs.declared.Fault.{Fault}
+use Rattle.spool_block.specs.declared.Fault.TheVariants.{Check, Number, Count}
+use Rattle.spool.specs.declared.Refusal.{Refusal}
+use Rattle.spool.specs.declared.Refusal.TheVariants.{ProgramLength, SpoolLength, Block, RoomLength}
 use Rattle.spool.proofs.Mending.{block_whole, by_mended, mended_whole}
 use Rattle.spool.proofs.Numbers.{length_good, look_block, salvage_all}
 use Rattle.spool.proofs.Parts.{front, front_ext, front_length, parts_back, part_of}
@@ -30,26 +33,28 @@ use Rattle.spool.proofs.Rooms.{put_length, put_rest}
 use Rattle.spool.proofs.Settles.{reading_number, reads_all, read_settles, no_block, writes_all, write_settles, salvaging_number, salvage_settles}
 use Rattle.spool.proofs.Whole.{spool_blocks_is, spool_good, spool_all, spool_program, reads_program, reads_spool}
 
--- ---- the answers
+-- ---- the numbers
 
--- the answer of a number
-abbrev answer_with : ℕ → Answer
-answer_with n =
-    cond (eqb n 0) Accepted
-    (cond (eqb n 40) ProgramLength
-    (cond (eqb n 50) SpoolLength
-    (cond (eqb n 51) BlockCheck
-    (cond (eqb n 52) BlockNumber
-    (cond (eqb n 53) BlockCount RoomLength)))))
+fault_with : ℕ → Fault
+fault_with n = cond (eqb n 51) Check (cond (eqb n 52) Number Count)
 
-answer_back : (a : Answer) → answer_with (number_of a) ≡ a
-answer_back Accepted = refl
-answer_back ProgramLength = refl
-answer_back SpoolLength = refl
-answer_back BlockCheck = refl
-answer_back BlockNumber = refl
-answer_back BlockCount = refl
-answer_back RoomLength = refl
+-- what a number settles
+abbrev settled_with : ℕ → Result Unit Refusal
+settled_with n =
+    cond (eqb n 0) (Ok tt)
+    (cond (eqb n 40) (Err ProgramLength)
+    (cond (eqb n 50) (Err SpoolLength)
+    (cond (eqb n 54) (Err RoomLength) (Err (Block (fault_with n))))))
+
+settled_back : (x : Result Unit Refusal) → settled_with (number_of x) ≡ x
+unfolding fault_with
+settled_back (Ok _) = refl
+settled_back (Err ProgramLength) = refl
+settled_back (Err SpoolLength) = refl
+settled_back (Err (Block Check)) = refl
+settled_back (Err (Block Number)) = refl
+settled_back (Err (Block Count)) = refl
+settled_back (Err RoomLength) = refl
 
 -- ---- written and read
 
@@ -216,7 +221,7 @@ lost = refl
 
 pub spools : Spools
 spools = record {
-  answers = λ x y e. sym (answer_back x) ∙ ap answer_with e ∙ answer_back y;
+  answers = λ x y e. sym (settled_back x) ∙ ap settled_with e ∙ settled_back y;
   reads = read_settles;
   writes = write_settles;
   salvages = salvage_settles;

@@ -1,14 +1,17 @@
 -- What only the promises of private functions cite. No public promise and no theorem rests on it.
-use Rattle.std.specs.Prelude.{ℕ, ◌+◌, ◌<◌, ◌≤◌, ◌≡◌, true, false, cond, List, eqb, ltb}
-use Rattle.spool_block.specs.Block.{is_good}
-use Rattle.spool.specs.Reading.{blocks_in, block_at}
+use Rattle.std.specs.Prelude.{ℕ, suc, length, drop, map}
+use mathlib.Core.List.{List, [], ◌∷◌, flatten}
+use Rattle.spool_block.specs.Block.{used_in, block_refusal}
 
--- the place behind place i; behind the last block there is none
-unfoldable pub place_after : List ℕ → ℕ → ℕ
-place_after s i = cond (ltb i (blocks_in s)) (i + 1) i
+-- what blocks give at the places from i on of a spool of n
+abbrev pub verdicts : ℕ → ℕ → List (List ℕ) → List ℕ
+verdicts n i [] = []
+verdicts n i (b ∷ bs) = block_refusal n i b ∷ verdicts n (suc i) bs
 
--- spare k is the first that is good at place i of n; where none is, k is as many as there are
-pub record FirstGood (n i : ℕ) (spares : List ℕ) (k : ℕ) : Type 0 where
-  pub within : k ≤ blocks_in spares
-  pub good : k < blocks_in spares → is_good n i (block_at spares k) ≡ true
-  pub before : (j : ℕ) → j < k → is_good n i (block_at spares j) ≡ false
+-- what those of a spool give from a place on
+abbrev pub verdicts_from : List (List ℕ) → ℕ → List ℕ
+verdicts_from bs i = verdicts (length bs) i (drop i bs)
+
+-- what blocks use, one after the other
+abbrev pub uses_of : List (List ℕ) → List ℕ
+uses_of bs = flatten (map used_in bs)

@@ -13,6 +13,7 @@ ghost use Rattle.spool.specs.Writing.{writing};
 ghost use Rattle.spool.specs.Salvage.{salvaging_as, salvaging};
 ghost use Rattle.spool.specs.declared.Refusal.TheVariants.{Block};
 
+use reading::Reader;
 use spool_block::Fault;
 
 // Why a call is refused. It changes nothing then.
@@ -93,21 +94,22 @@ impl TryFrom<u8> for Fate {
 pub fn read(spool: &[u8], room: &mut [u8]) -> Result<usize, Refusal>
     ensures { outcome_of result room.new ≡ reading spool.now room.old }
 {
-    if reading::length_is_bad(spool.len()) {
-        return Err(Refusal::SpoolLength);
-    }
-    if room.len() < 472 * (spool.len() / 512) {
+    let blocks = reading::blocks(spool)?;
+    if room.len() < 472 * blocks.len() {
         return Err(Refusal::RoomLength);
     }
-    reading::check_all(spool)?;
-    Ok(reading::gather(spool, room))
+    reading::check_all(blocks)?;
+    Ok(reading::gather(blocks, room))
 }
 
-// Whether the block at a place is good there, and otherwise its first fault; the spool's length is refused where it has no such block, too.
+// Whether the block at a place is good there, and otherwise its first fault; a spool with no such block is refused as one of a bad length.
 pub fn look(spool: &[u8], place: usize) -> Result<(), Refusal>
     ensures { number_of result ≡ look_refusal spool.now place }
 {
-    reading::look(spool, place)
+    match Reader::at(reading::blocks(spool)?, place).next() {
+        None => Err(Refusal::SpoolLength),
+        Some(verdict) => Ok(verdict?),
+    }
 }
 
 // Puts the spool of a program at the front of the room, and says how long it is.
@@ -128,10 +130,11 @@ pub fn write(program: &[u8], room: &mut [u8]) -> Result<usize, Refusal>
 pub fn salvage(spool: &mut [u8], spares: &[u8], report: &mut [u8]) -> Result<(), Refusal>
     ensures { salvaging_as (number_of result) spool.new report.new ≡ salvaging spool.old spares.now report.old }
 {
-    if reading::length_is_bad(spool.len()) || spares.len() % 512 != 0 {
+    let blocks = reading::blocks(spool)?.len();
+    let (spares, []) = spares.as_chunks() else {
         return Err(Refusal::SpoolLength);
-    }
-    if report.len() < spool.len() / 512 {
+    };
+    if report.len() < blocks {
         return Err(Refusal::RoomLength);
     }
     salvaging::mend_all(spool, spares, report);

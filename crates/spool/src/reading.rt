@@ -1,52 +1,75 @@
 // A spool read: a reader goes through it from block to block, and tests all before any byte is copied.
-ghost use Rattle.std.specs.Prelude.{◌≡◌, false, ◌*◌, ◌≤◌, length};
-ghost use Rattle.endian.specs.Lists.{each};
+ghost use Rattle.std.specs.Prelude.{◌≡◌, true, false, ◌*◌, ◌≤◌, length, MatchResult};
+ghost use Rattle.std.specs.Iterator.{YieldsFirstBy, item_count};
 ghost use Rattle.protocol.specs.Replies.{put_in};
-ghost use Rattle.spool.specs.Answers.{number_of};
-ghost use Rattle.spool.specs.Reading.{blocks_in, refusal_at, earliest, program_in, bad_length, look_refusal};
+ghost use Rattle.spool_block.specs.Block.{number_of};
+ghost use Rattle.spool.specs.Reading.{earliest, bad_length};
+ghost use Rattle.spool.specs.Salvage.{blocks_of};
+ghost use Rattle.spool.specs.Steps.{verdicts_from, uses_of};
 
 use crate::Refusal;
+use spool_block::Fault;
 
-// Whether no spool has this length.
-pub fn length_is_bad(n: usize) -> bool
-    ensures { result ≡ bad_length n }
+// The blocks of a spool, if one has this length.
+pub fn blocks(spool: &[u8]) -> Result<&[[u8; 512]], Refusal>
+    ensures { MatchResult result (λ blocks. (bad_length (length spool.now) ≡ false) × (blocks.now ≡ blocks_of spool.now)) (λ refusal. (bad_length (length spool.now) ≡ true) × (refusal ≡ Refusal.SpoolLength)) }
 {
-    n == 0 || 142336 < n || n % 512 != 0
+    match spool.as_chunks() {
+        (blocks, []) if 1 <= blocks.len() && blocks.len() <= 278 => Ok(blocks),
+        _ => Err(Refusal::SpoolLength),
+    }
 }
 
-pub fn look(spool: &[u8], place: usize) -> Result<(), Refusal>
-    ensures { number_of result ≡ look_refusal spool.now place }
-{
-    let (blocks, _) = spool.as_chunks::<512>();
-    if length_is_bad(spool.len()) || blocks.len() <= place {
-        return Err(Refusal::SpoolLength);
+// A reader: the blocks of a spool, and the place of the one that it stands at.
+#[derive(Clone, Copy)]
+pub struct Reader<'a> {
+    blocks: &'a [[u8; 512]],
+    place: usize,
+}
+
+impl<'a> Reader<'a> {
+    pub fn at(blocks: &'a [[u8; 512]], place: usize) -> Reader<'a>
+        ensures { (result.blocks ≡ blocks.entry) × (result.place ≡ place) }
+    {
+        Reader { blocks, place }
     }
-    spool_block::check(&blocks[place], place, blocks.len())?;
-    Ok(())
+}
+
+// It goes from block to block, and tests each at its place.
+impl<'a> Iterator for Reader<'a> {
+    type Item = Result<(), Fault>;
+
+    ghost next_gives = { YieldsFirstBy number_of (λ r. verdicts_from r.blocks.now r.place) };
+
+    ghost remaining = { item_count (λ r. verdicts_from r.blocks.now r.place) };
+
+    fn next(&mut self) -> Option<Result<(), Fault>> {
+        let block = self.blocks.get(self.place)?;
+        let verdict = spool_block::check(block, self.place, self.blocks.len());
+        self.place += 1;
+        Some(verdict)
+    }
 }
 
 // The earliest block's first fault, if one has any.
-pub fn check_all(spool: &[u8]) -> Result<(), Refusal>
-    requires { bad_length (length spool.now) ≡ false }
-    ensures { number_of result ≡ earliest (each (blocks_in spool.now) (refusal_at spool.now)) }
+pub fn check_all(blocks: &[[u8; 512]]) -> Result<(), Fault>
+    ensures { number_of result ≡ earliest (verdicts_from blocks.now 0) }
 {
-    let (blocks, _) = spool.as_chunks::<512>();
-    for (place, block) in blocks.iter().enumerate() {
-        spool_block::check(block, place, blocks.len())?;
+    for verdict in Reader::at(blocks, 0) {
+        verdict?;
     }
     Ok(())
 }
 
 // Puts the program at the front of the room, and says how long it is.
-pub fn gather(spool: &[u8], room: &mut [u8]) -> usize
-    requires { 472 * blocks_in spool.now ≤ length room.old }
-    ensures { (result ≡ length (program_in spool.now)) × (room.new ≡ put_in room.old (program_in spool.now)) }
+pub fn gather(blocks: &[[u8; 512]], room: &mut [u8]) -> usize
+    requires { 472 * length blocks.now ≤ length room.old }
+    ensures { (result ≡ length (uses_of blocks.now)) × (room.new ≡ put_in room.old (uses_of blocks.now)) }
 {
-    let (blocks, _) = spool.as_chunks::<512>();
-    let mut at: usize = 0;
+    let mut at = 0;
     for block in blocks {
         let used = spool_block::used(block);
-        endian::put(room, at, used);
+        endian::paste(room, at, used);
         at += used.len();
     }
     at

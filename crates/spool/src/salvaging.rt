@@ -1,58 +1,48 @@
 // A damaged spool salvaged, block by block, with spare blocks.
-ghost use Rattle.std.specs.Prelude.{◌≡◌, false, ◌*◌, ◌/◌, ◌<◌, ◌≤◌, length};
+ghost use Rattle.std.specs.Prelude.{◌≡◌, ◌%◌, ◌≤◌, length, MatchOption};
+ghost use Rattle.std.proofs.Math.Option.{none, some};
 ghost use mathlib.Core.List.{flatten};
-ghost use Rattle.endian.specs.Lists.{each, put_at};
+ghost use Rattle.endian.specs.Lists.{each};
 ghost use Rattle.protocol.specs.Replies.{put_in};
-ghost use Rattle.spool.specs.Reading.{blocks_in, bad_length};
-ghost use Rattle.spool.specs.Salvage.{mended_at};
-ghost use Rattle.spool.specs.Steps.{FirstGood};
+ghost use Rattle.spool.specs.Answers.{fate_number};
+ghost use Rattle.spool.specs.Reading.{blocks_in, block_at};
+ghost use Rattle.spool.specs.Salvage.{first_good, mended};
 
-use super::reading;
+use crate::Fate;
 
-// Which spare is the first that is good at a place of a spool of so many blocks; as many as there are, where none is.
-fn find_spare(spares: &[u8], place: usize, blocks: usize) -> usize
-    ensures { FirstGood blocks place spares.now result }
+// The first spare that is good at a place of a spool of so many blocks, if one is.
+fn find_spare(spares: &[[u8; 512]], place: usize, blocks: usize) -> Option<&[u8; 512]>
+    ensures { MatchOption result (first_good blocks place spares.now ≡ none) (λ spare. first_good blocks place spares.now ≡ some spare.now) }
 {
-    let n = spares.len() / 512;
-    let mut k: usize = 0;
-    while k < n {
-        let from = 512 * k;
-        let to = from + 512;
-        if spool_block::is_good(&spares[from..to], place, blocks) {
-            return k;
-        }
-        k += 1;
-    }
-    n
+    spares
+        .iter()
+        .find(|spare| spool_block::is_good(*spare, place, blocks))
 }
 
-// Mends a place, and says what is reported of it.
-fn mend(spool: &mut [u8], spares: &[u8], place: usize) -> u8
-    requires { (bad_length (length spool.old) ≡ false) × (place < blocks_in spool.old) }
-    ensures { (result ≡ (mended_at spool.old spares.now place).entry) × (spool.new ≡ put_at (512 * place) (mended_at spool.old spares.now place).block spool.old) }
+// Mends a block, and says what became of it.
+fn mend(block: &mut [u8], place: usize, blocks: usize, spares: &[[u8; 512]]) -> Fate
+    requires { length block.old ≡ 512 }
+    ensures { let m = mended blocks place spares.now block.old in (fate_number result ≡ m.entry) × (block.new ≡ m.block) }
 {
-    if reading::look(spool, place).is_ok() {
-        return 0;
+    if spool_block::is_good(block, place, blocks) {
+        return Fate::Kept;
     }
-    let k = find_spare(spares, place, spool.len() / 512);
-    if spares.len() / 512 <= k {
-        return 2;
-    }
-    let from = 512 * k;
-    let to = from + 512;
-    endian::put(spool, 512 * place, &spares[from..to]);
-    1
+    let Some(spare) = find_spare(spares, place, blocks) else {
+        return Fate::Lost;
+    };
+    block.copy_from_slice(spare);
+    Fate::Replaced
 }
 
 // Mends each place, and puts what is reported of it at the front of the report.
-pub fn mend_all(spool: &mut [u8], spares: &[u8], report: &mut [u8])
-    requires { (bad_length (length spool.old) ≡ false) × (blocks_in spool.old ≤ length report.old) }
-    ensures { (spool.new ≡ flatten (each (blocks_in spool.old) (λ i. (mended_at spool.old spares.now i).block))) × (report.new ≡ put_in report.old (each (blocks_in spool.old) (λ i. (mended_at spool.old spares.now i).entry))) }
+pub fn mend_all(spool: &mut [u8], spares: &[[u8; 512]], report: &mut [u8])
+    requires { (length spool.old % 512 ≡ 0) × (blocks_in spool.old ≤ length report.old) }
+    ensures { let at = λ i. mended (blocks_in spool.old) i spares.now (block_at spool.old i) in let n = blocks_in spool.old in (spool.new ≡ flatten (each n (λ i. (at i).block))) × (report.new ≡ put_in report.old (each n (λ i. (at i).entry))) }
 {
-    let n = spool.len() / 512;
-    let mut i: usize = 0;
-    while i < n {
-        report[i] = mend(spool, spares, i);
-        i += 1;
+    let blocks = spool.len() / 512;
+    for place in 0..blocks {
+        let from = 512 * place;
+        let fate = mend(&mut spool[from..from + 512], place, blocks, spares);
+        report[place] = u8::from(fate);
     }
 }
