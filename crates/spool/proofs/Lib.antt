@@ -6,3 +6,4 @@ pub mod Proved
 pub mod Rooms
 pub mod Settles
 pub mod Whole
+pub mod Chunks

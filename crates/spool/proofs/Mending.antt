@@ -1,8 +1,9 @@
 -- What becomes of a block.
 use Prim.Native.Nat.{ℕ, zero, suc, ◌*◌, ◌≤◌, ◌<◌}
-use mathlib.Core.Bool.{Bool, true, false}
-use mathlib.Core.List.{List}
-use mathlib.Core.Option.{none, some}
+use mathlib.Core.Bool.{Bool, true, false, cond}
+use mathlib.Core.List.{List, [], ◌∷◌}
+use mathlib.Core.Option.{Option, none, some}
+use Rattle.std.specs.declared.option.Option as option
 use mathlib.Core.Path.{◌≡◌, refl, sym, subst}
 use native.Mathlib.Omega.{arith}
 use native.Mathlib.Nat.{le_of_suc-le-suc}
@@ -10,9 +11,10 @@ use lib.Dec.{ltb}
 use lib.ListN.{length, drop, length-drop}
 use lib.Seq.{length-take-le}
 use borrow.Author.Tests.{ltb-true, ltb-false}
+use Rattle.std.specs.Prelude.{Some, None, find}
 use Rattle.spool_block.specs.Block.{is_good}
 use Rattle.spool.specs.Reading.{blocks_in, block_at}
-use Rattle.spool.specs.Salvage.{blocks_of, Mended, kept, replaced_by, mended, mended_at}
+use Rattle.spool.specs.Salvage.{blocks_of, first_good, Mended, kept, replaced_by, mended, mended_at}
 use Rattle.spool.proofs.Firsts.{first_good_is, first_none}
 
 pub block_whole : (s : List ℕ) (i : ℕ) → i < blocks_in s → length (block_at s i) ≡ 512
@@ -24,10 +26,34 @@ pub record FirstGood (n i : ℕ) (spares : List ℕ) (k : ℕ) : Type 0 where
   pub good : k < blocks_in spares → is_good n i (block_at spares k) ≡ true
   pub before : (j : ℕ) → j < k → is_good n i (block_at spares j) ≡ false
 
+-- the library's `Option` as mathlib's
+abbrev as_math : option.Option (List ℕ) → Option (List ℕ)
+as_math (Some b) = some b
+as_math None = none
+
 module _ (n i : ℕ) where
   pub mended_kept : (sp : List (List ℕ)) (b : List ℕ) → is_good n i b ≡ true → mended n i sp b ≡ kept b
   unfolding mended
   mended_kept sp b e = rw e
+
+  -- by the first spare that `find` gives
+  first_found : (bs : List (List ℕ)) → first_good n i bs ≡ as_math (find (is_good n i) bs)
+  unfolding first_good
+  first_found [] = refl
+  first_found (b ∷ bs) = go (is_good n i b) (first_found bs)
+    where
+      go : (t : Bool) → first_good n i bs ≡ as_math (find (is_good n i) bs) → cond t (some b) (first_good n i bs) ≡ as_math (cond t (Some b) (find (is_good n i) bs))
+      go true e = refl
+      go false e = e
+
+  module _ (sp : List (List ℕ)) (b : List ℕ) (bad : is_good n i b ≡ false) where
+    pub mended_none : find (is_good n i) sp ≡ None → mended n i sp b ≡ replaced_by none b
+    unfolding mended
+    mended_none e = rw (bad, first_found sp, e)
+
+    pub mended_some : (spare : List ℕ) → find (is_good n i) sp ≡ Some spare → mended n i sp b ≡ replaced_by (some spare) b
+    unfolding mended
+    mended_some spare e = rw (bad, first_found sp, e)
 
   module _ (x b : List ℕ) (bad : is_good n i b ≡ false) (k : ℕ) (f : FirstGood n i x k) where
     pub mended_replaced : k < blocks_in x → mended n i (blocks_of x) b ≡ replaced_by (some (block_at x k)) b

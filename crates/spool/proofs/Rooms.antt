@@ -5,7 +5,8 @@ use mathlib.Core.Path.{◌≡◌, refl, sym, ap, ◌∙◌}
 use native.Mathlib.Omega.{arith}
 use native.Mathlib.Numerals.{add-one}
 use lib.ListN.{length, take, drop, get_or, set, length-append, length-drop, take-append-drop}
-use lib.Seq.{drop-drop, drop-length, length-take-le, drop-cons, append_snoc, take-append_seam, drop-append_seam, set-append_seam}
+use Rattle.std.proofs.lemmas.List.Edits.{paste_all}
+use lib.Seq.{paste, drop-drop, drop-length, length-take-le, drop-cons, append_snoc, take-append_seam, drop-append_seam, set-append_seam}
 use Rattle.endian.specs.Lists.{put_at}
 use Rattle.endian.proofs.Lists.{put_fits}
 use Rattle.protocol.specs.Replies.{put_in}
@@ -18,6 +19,10 @@ put_none old = refl
 pub put_all : (old x : List ℕ) → length x ≡ length old → put_in old x ≡ x
 unfolding put_in
 put_all old x e = rw (e, drop-length old) (append-nil x)
+
+-- where it fits, what is pasted is put
+pub paste_put : (at : ℕ) (x l : List ℕ) → at + length x ≤ length l → paste l at x (length x) ≡ put_at at x l
+paste_put at x l h = paste_all l at x (length x) refl ∙ rw (← drop-drop (length x) at l, ← append_assoc) (sym (put_fits at x l h))
 
 -- a part put where it stands
 pub put_same : (at n : ℕ) (l : List ℕ) → at + n ≤ length l → put_at at (take n (drop at l)) l ≡ l

@@ -39,7 +39,7 @@ module _ (s room : List ℕ) where
   reading_number = given_number (read_refusal s (length room)) (program_in s) room
 
   -- by its number
-  refused_with : (k : ℕ) → read_refusal s (length room) ≡ k → (k ≡ 0 → ⊥) → reading s room ≡ outcome k 0 room
+  pub refused_with : (k : ℕ) → read_refusal s (length room) ≡ k → (k ≡ 0 → ⊥) → reading s room ≡ outcome k 0 room
   unfolding reading
   refused_with k e h = rw e (given_refused k (program_in s) room h)
 

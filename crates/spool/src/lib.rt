@@ -131,9 +131,10 @@ pub fn salvage(spool: &mut [u8], spares: &[u8], report: &mut [u8]) -> Result<(),
     ensures { salvaging_as (number_of result) spool.new report.new ≡ salvaging spool.old spares.now report.old }
 {
     let blocks = reading::blocks(spool)?.len();
-    let (spares, []) = spares.as_chunks() else {
+    let (spares, rest) = spares.as_chunks();
+    if !rest.is_empty() {
         return Err(Refusal::SpoolLength);
-    };
+    }
     if report.len() < blocks {
         return Err(Refusal::RoomLength);
     }

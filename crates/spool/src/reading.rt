@@ -14,10 +14,11 @@ use spool_block::Fault;
 pub fn blocks(spool: &[u8]) -> Result<&[[u8; 512]], Refusal>
     ensures { MatchResult result (λ blocks. (bad_length (length spool.now) ≡ false) × (blocks.now ≡ blocks_of spool.now)) (λ refusal. (bad_length (length spool.now) ≡ true) × (refusal ≡ Refusal.SpoolLength)) }
 {
-    match spool.as_chunks() {
-        (blocks, []) if 1 <= blocks.len() && blocks.len() <= 278 => Ok(blocks),
-        _ => Err(Refusal::SpoolLength),
+    let (blocks, rest) = spool.as_chunks();
+    if blocks.is_empty() || 278 < blocks.len() || !rest.is_empty() {
+        return Err(Refusal::SpoolLength);
     }
+    Ok(blocks)
 }
 
 // A reader: the blocks of a spool, and the place of the one that it stands at.
