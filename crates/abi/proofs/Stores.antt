@@ -79,24 +79,11 @@ module _ (n b : List ℕ) (numbers : length n ≡ 3) (full : length b ≡ 268) (
       (get_or-set_same b 129 g 0 (omega arith))
       (take-set-le 128 b 129 g (omega arith))
 
-  -- the end of a frame that is passed over, with z the memory after the body is cleared
-  idle_at : (z : List ℕ) → length z ≡ 268 → drop 130 z ≡ drop 130 b → take 128 z ≡ zeros 128
-      → lent n (set (set z 128 0) 129 0) ≡ memory_of (with_incoming (state_in (lent n b)) idle)
-  idle_at z l d t =
-      framed (set (set z 128 0) 129 0) (rw (length-set, length-set) l)
-      (drop-set-lt 130 (set z 128 0) 129 0 (omega arith) ∙ drop-set-lt 130 z 128 0 (omega arith) ∙ d)
-      0
-      0
-      (zeros 128)
-      (get_or-set_other (set z 128 0) 129 128 0 0 (λ e. omega arith) ∙ get_or-set_same z 128 0 0 (omega arith))
-      (get_or-set_same (set z 128 0) 129 0 0 (rw length-set (omega arith)))
-      (take-set-le 128 (set z 128 0) 129 0 (omega arith) ∙ take-set-le 128 z 128 0 (omega arith) ∙ t)
-
-  cleared_length : length (zeros 128 ++ drop 128 b) ≡ 268
-  cleared_length = length-append (zeros 128) (drop 128 b) ∙ ap (λ (k : ℕ). 128 + k) (length-drop 128 b ∙ ap (λ (k : ℕ). k - 128) full)
-
-  pub idle_in : lent n (set (set (zeros 128 ++ drop 128 b) 128 0) 129 0) ≡ memory_of (with_incoming (state_in (lent n b)) idle)
-  idle_in = idle_at (zeros 128 ++ drop 128 b) cleared_length (drop-drop 2 128 b) refl
+  -- the end of a frame that is passed over
+  pub idle_in : (z : List ℕ) → z ≡ zeros 130 ++ drop 130 b → lent n z ≡ memory_of (with_incoming (state_in (lent n b)) idle)
+  idle_in z e =
+      let l : length z ≡ 268 = ap length e ∙ length-append (zeros 130) (drop 130 b) ∙ ap (λ (k : ℕ). 130 + k) (length-drop 130 b ∙ ap (λ (k : ℕ). k - 130) full) in
+      framed z l (ap (drop 130) e) 0 0 (zeros 128) (ap (λ (x : List ℕ). get_or x 128 0) e) (ap (λ (x : List ℕ). get_or x 129 0) e) (ap (take 128) e)
 
 -- a stop
 pub ended_in : (n : List ℕ) → length n ≡ 3 → lent (set (set n 1 0) 2 0) (set (zeros 268) 130 3) ≡ memory_of (ended Stopped (get_or n 0 0))

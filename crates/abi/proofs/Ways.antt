@@ -107,11 +107,10 @@ module _ (n b : List ℕ) (x : ℕ) (numbers : length n ≡ 3) (full : length b 
           ap (gather_told 0) (kept_in n b numbers full held (got - 1) x (got + 1) (omega arith))
           ∙ sym (kept_by (state_in (lent n b)) x _ ep len (λ z. omega arith) header e false (ne_eqb (got + 1) (len + 1) (λ z. omega arith)))
 
-      pub ends : (b' : List ℕ) → b' ≡ zeros 128 ++ drop 128 b → (ep ≡ 2 → ⊥) → len ≤ got → gather_told 0 (lent n (set (set b' 128 0) 129 0)) ≡ admitted (lent n b) x
+      pub ends : (b' : List ℕ) → b' ≡ zeros 130 ++ drop 130 b → (ep ≡ 2 → ⊥) → len ≤ got → gather_told 0 (lent n b') ≡ admitted (lent n b) x
       unfolding admitted state_in
       ends b' eb e q =
-          ap (λ (z : List ℕ). gather_told 0 (lent n (set (set z 128 0) 129 0))) eb ∙ ap (gather_told 0) (idle_in n b numbers full held)
-          ∙ sym (ended_by (state_in (lent n b)) x _ ep len (λ z. omega arith) header e (omega arith))
+          ap (gather_told 0) (idle_in n b numbers full held b' eb) ∙ sym (ended_by (state_in (lent n b)) x _ ep len (λ z. omega arith) header e (omega arith))
 
       pub passes : (ep ≡ 2 → ⊥) → got < len → gather_told 0 (lent n (set b 129 (got + 1))) ≡ admitted (lent n b) x
       unfolding admitted state_in
