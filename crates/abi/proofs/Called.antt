@@ -46,9 +46,10 @@ module _ (m : Memory) (bytes udi : List ℕ) (f : Flash) (ram uds : List ℕ) (o
   begin_refused why e = sym (told ∙ rw e refl)
 
   module _ (x : Step) (e : r ≡ Ok x) where
-    pub begin_taken : begin_told (answer_number (report_of x.answer)) (memory_of x.state) (start_in (start_of (report_of x.answer)) (cdi_in x.answer) (digest_in x.answer)) ram' uds'
-        ≡ begin_call m bytes udi f ram uds old
-    begin_taken = sym (told ∙ rw (e, answered x.answer) refl)
+    pub begin_taken : (k : ℕ) (m' : Memory) (given : Start) → k ≡ answer_number (report_of x.answer) → m' ≡ memory_of x.state
+        → given ≡ start_in (start_of (report_of x.answer)) (cdi_in x.answer) (digest_in x.answer)
+        → begin_told k m' given ram' uds' ≡ begin_call m bytes udi f ram uds old
+    begin_taken k m' given n q g = sym (told ∙ rw (e, answered x.answer, n, q, g) refl)
 
     pub begin_small : x.state.config.ram_len < 2 ^ 32
     begin_small =
@@ -77,13 +78,10 @@ module _ (m : Memory) (room ram uds : List ℕ) (reply : ℕ) (old : Start) wher
     act_refused why e = sym (act_told_as ∙ rw (e, read, forth m l h) refl)
 
     module _ (x : Acted) (e : r ≡ Ok x) where
-      pub act_taken : act_told (answer_number (report_of x.answer)) (memory_of x.state) x.reply
-          (start_in (start_of (report_of x.answer)) (cdi_in x.answer) (digest_in x.answer))
-          room'
-          ram'
-          uds'
-          ≡ act_call m room ram uds reply old
-      act_taken = sym (act_told_as ∙ rw (e, answered x.answer) refl)
+      pub act_taken : (k : ℕ) (m' : Memory) (given : Start) → k ≡ answer_number (report_of x.answer) → m' ≡ memory_of x.state
+          → given ≡ start_in (start_of (report_of x.answer)) (cdi_in x.answer) (digest_in x.answer)
+          → act_told k m' x.reply given room' ram' uds' ≡ act_call m room ram uds reply old
+      act_taken k m' given n q g = sym (act_told_as ∙ rw (e, answered x.answer, n, q, g) refl)
 
       out : outcome_in x room' ram' uds' ≡ acted (state_in m) room ram uds
       out = let q : outcome r s room' ram' uds' ≡ outcome_in x room' ram' uds' = rw e refl in sym q ∙ same

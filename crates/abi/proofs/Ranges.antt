@@ -12,13 +12,27 @@ use Rattle.protocol.specs.Commands.{length_ok}
 use Rattle.head.specs.State.{whole_by, frame_ok, load_ok, progress_in, in_range, live}
 use Rattle.head.specs.Gather.{gather_refusal, gathered}
 use Rattle.head.specs.declared.Phase.TheVariants.{Waiting, Loading, Started, Stopped}
+use Rattle.head.specs.Answers.{refusal_number}
 use Rattle.head.specs.declared.Progress.{Progress}
+use Rattle.head.specs.declared.Refusal.{Refusal}
+use Rattle.head.specs.declared.Refusal.TheVariants.{StateRange, Ended, ReplyRoom, RamLength, SecretLength, RecordLength, RamSize, OutOfTurn}
 use Rattle.head.proofs.Admitted.{gather_admitted, gather_admitted_as}
 use Rattle.head.proofs.Ranges.{incoming_got, range_facts}
 use Rattle.abi.specs.Layout.{lent, phase_of, holds, state_in}
 use Rattle.abi.specs.Calls.{gather_told, after_gather, gather_call}
 use Rattle.abi.specs.Steps.{admitted}
 use Rattle.abi.proofs.RoundTrip.{forth}
+
+-- no refusal has the number 0
+pub some_number : (why : Refusal) → refusal_number why ≡ 0 → ⊥
+some_number StateRange e = omega arith
+some_number Ended e = omega arith
+some_number ReplyRoom e = omega arith
+some_number RamLength e = omega arith
+some_number SecretLength e = omega arith
+some_number RecordLength e = omega arith
+some_number RamSize e = omega arith
+some_number OutOfTurn e = omega arith
 
 -- only while loading is anything of a load tested
 progress_same : (k : ℕ) (p : Progress) (m : ℕ) → progress_in (phase_of k) p m ≡ cond (eqb k 1) (load_ok p.size p.block m) true

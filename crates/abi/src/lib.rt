@@ -100,12 +100,10 @@ pub extern "C" fn mastfrap_gather(numbers: &mut [u32; 3], bytes: &mut [u8; 268],
     if let Err(why) = gathering::admit(numbers, bytes, len) {
         return refusal_number(why);
     }
-    let answer = if bytes[129] == 0 {
-        gathering::open(numbers, bytes, byte)
-    } else {
-        gathering::take(bytes, len, byte)
-    };
-    answer_number(answer)
+    if bytes[129] == 0 {
+        return answer_number(gathering::open(numbers, bytes, byte));
+    }
+    answer_number(gathering::take(bytes, len, byte))
 }
 
 // act.
