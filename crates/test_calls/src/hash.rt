@@ -6,7 +6,7 @@ pub fn call(rt: &impl Print, context: &mut Context, c: &[u8; 320]) {
     match c[0] {
         2 => begin(rt, context, c),
         3 => update(rt, context, c),
-        4 => finish(rt, context, usize::from(c[1]).min(255)),
+        4 => finish(rt, context, c[1]),
         _ => {}
     }
 }
@@ -32,9 +32,10 @@ fn update(rt: &impl Print, context: &mut Context, c: &[u8; 320]) {
 }
 
 // So many bytes are lent for the hash.
-fn finish(rt: &impl Print, context: &Context, n: usize) {
+fn finish(rt: &impl Print, context: &Context, n: u8) {
     let mut out = [0xaau8; 255];
-    write_answer(rt, context.finish(&mut out[..n]));
+    let answer = context.finish(&mut out[..usize::from(n)]);
+    write_answer(rt, answer);
     image::write(rt, &out);
 }
 
