@@ -90,20 +90,16 @@ fn read(rt: &HostRuntime) -> Result<(), Failure> {
     match spool::read(bytes, &mut room) {
         Err(why) => {
             let refused = COMMAND.refuse_at(rt, 2, spool_words::refusal(bytes));
-            Err(failure(why, refused))
+            // A bad length is the file's, all else a block's.
+            Err(match why {
+                Refusal::SpoolLength => refused.into(),
+                _ => Failure::Block,
+            })
         }
         Ok(len) => {
             let program = endian::first(&room, len);
             deliver(rt, program, line(n, program))
         }
-    }
-}
-
-// Of a spool that does not read: a bad length is the file's, all else a block's.
-fn failure(why: Refusal, refused: input::Failure) -> Failure {
-    match why {
-        Refusal::SpoolLength => Failure::Input(refused),
-        _ => Failure::Block,
     }
 }
 

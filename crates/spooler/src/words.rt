@@ -1,22 +1,28 @@
 // The words of ./spool, besides those that say why a spool does not read (crate `spool_words`).
 use spool::Refusal;
+use spool_words::{Wrong, WrongBlock};
 use text::{Hex, Text};
 
 // Of a program and its spool: how many blocks and bytes, and the digest.
 pub fn line(blocks: usize, bytes: usize, digest: [u8; 32]) -> Text {
-    Text::of(format_args!("blocks: {blocks}, bytes: {bytes}, digest {}\n", Hex(&digest)))
+    Text::of((
+        format_args!("blocks: {blocks}, bytes: {bytes}, digest "),
+        Hex(&digest),
+        "\n",
+    ))
 }
 
 // Of a file that is not taken, by what is wrong.
 pub fn refusal(why: Refusal) -> Text {
-    Text::of(spool_words::fault_words(why))
+    Text::of(Wrong(Err(why)))
 }
 
 // ---- blocks
 
 // The line of a bad block.
 pub fn bad(place: usize, why: Refusal) -> Text {
-    Text::of(format_args!("block {place}: {}\n", spool_words::fault_words(why)))
+    let answer = Err(why);
+    Text::of((WrongBlock { place, answer }, "\n"))
 }
 
 // The line of a block that a spare has replaced.
@@ -26,13 +32,15 @@ pub fn replaced(place: usize) -> Text {
 
 // The line of a block that no spare is good for.
 pub fn lost(place: usize, why: Refusal) -> Text {
-    Text::of(format_args!("block {place} lost: {}\n", spool_words::fault_words(why)))
+    Text::of(("block ", place, " lost: ", Wrong(Err(why)), "\n"))
 }
 
 // ---- salvage
 
 pub fn counts(kept: usize, replaced: usize, lost: usize) -> Text {
-    Text::of(format_args!("kept {kept}, replaced {replaced}, lost {lost}\n"))
+    Text::of(format_args!(
+        "kept {kept}, replaced {replaced}, lost {lost}\n"
+    ))
 }
 
 // A block says its place, and not of which program it is.
