@@ -24,10 +24,10 @@ fn main(rt: HostRuntime) {
 fn run(rt: &HostRuntime) -> Result<(), Failure> {
     let mut record = [0u8; 257];
     let n = COMMAND.read(rt, 1, &mut record)?;
-    let begun = diagnosis::begin(&record[..n], input::number_at(rt, 3) as usize);
-    if let Verdict::Refused(why) = begun.verdict {
-        return Err(COMMAND.refuse_at(rt, 1, words::refusal(why)));
-    }
+    let begun = match Monitor::begin(&record[..n], input::number_at(rt, 3) as usize) {
+        Ok(monitor) => monitor,
+        Err(why) => return Err(COMMAND.refuse_at(rt, 1, words::refusal(why))),
+    };
     let monitor = hear(rt, begun)?;
     COMMAND.written(rt, text::write(&mut rt.stdout(), words::lines(monitor)))
 }
@@ -57,17 +57,16 @@ fn hear_file<F: Read>(
         return Ok(monitor);
     }
     let read = input::read_parts(file, |part| {
-        let heard = diagnosis::hear(monitor, part);
-        monitor = heard.monitor;
-        if heard.taken && is_open(monitor) {
+        let heard = monitor.hear(part);
+        if heard.is_ok() && is_open(monitor) {
             ControlFlow::Continue(())
         } else {
-            ControlFlow::Break(heard.taken)
+            ControlFlow::Break(heard)
         }
     });
     match read {
         Err(why) => Err(COMMAND.fail(rt, name, why)),
-        Ok(ControlFlow::Break(false)) => Err(COMMAND.refuse(rt, name, too_long())),
+        Ok(ControlFlow::Break(Err(_))) => Err(COMMAND.refuse(rt, name, too_long())),
         Ok(_) => Ok(monitor),
     }
 }

@@ -8,7 +8,7 @@ use text::{Hex, Show, Text};
 // All lines of what a monitor has found. The longest, of numbers with 20 digits, have under 490 bytes, and a text has room for 512.
 pub fn lines(m: Monitor) -> Text {
     let config = m.head.config;
-    let d = diagnosis::explain(m);
+    let d = m.explain();
     let mut t = Text::new();
     put_reason(&mut t, d);
     put_advice(&mut t, d.finding, config.ram_len);
@@ -39,7 +39,6 @@ fn refusal_words(why: Refusal) -> &'static str {
 fn put_reason(t: &mut Text, d: Diagnosis) {
     let p = d.position;
     match d.finding {
-        Finding::Refused(why) => write!(t, "{}", refusal_words(why)),
         Finding::Stopped(why) => {
             write!(t, "stop {}", u8::from(why));
             put_at(t, p);
@@ -95,7 +94,6 @@ fn put_missing(t: &mut Text, n: u64) {
 fn put_advice(t: &mut Text, f: Finding, ram_len: usize) {
     let advice = match f {
         Finding::Waiting => return put_waiting_advice(t, ram_len),
-        Finding::Refused(_) => "the record",
         Finding::Stopped(why) => stop_advice(why),
         Finding::Unfinished => {
             "the capture, whether it was cut short; the cable, or a byte lost before"

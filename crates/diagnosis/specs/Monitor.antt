@@ -1,6 +1,6 @@
 -- A monitor, byte by byte: change request 13. The head's own gathering (`gathered`) and table of commands (`request_of`), and what acting does but for
 -- replies, CDI and RAM: the bytes that blocks carry are hashed in parts. What comes of it is said by demand 3's reading in the crate `reasons`.
-use Rattle.std.specs.Prelude.{ℕ, ◌+◌, ◌-◌, ◌^◌, Bool, true, false, not, cond, ◌&&◌, List, [], ◌∷◌, eqb, ltb, length, take}
+use Rattle.std.specs.Prelude.{ℕ, ◌+◌, ◌-◌, ◌^◌, Bool, true, false, not, cond, ◌&&◌, List, [], ◌∷◌, eqb, ltb, length, take, Result, Ok, Err}
 use Rattle.endian.specs.Lists.{zeros}
 use Rattle.blake2s.specs.Stream.{begin_context, update_context, finish_output}
 use Rattle.blake2s.specs.declared.Context.{Context}
@@ -22,11 +22,46 @@ use Rattle.head.specs.declared.Stop.TheVariants.{UnknownType, HeaderBit, Command
 use Rattle.diagnosis.specs.Reasons.{Reason, Explained, refusal_number}
 use Rattle.diagnosis.specs.Reasons as reason
 use Rattle.diagnosis.specs.declared.Refusal.TheVariants.{RecordLength, RamSize, FromFlash}
-use Rattle.diagnosis.specs.declared.Verdict.{Verdict}
-use Rattle.diagnosis.specs.declared.Verdict.TheVariants.{Open, Refused, Stopped, Started}
+use Rattle.diagnosis.specs.declared.Refusal.{Refusal}
 use Rattle.diagnosis.specs.declared.Position.{Position}
-use Rattle.diagnosis.specs.declared.Monitor.{Monitor}
-use Rattle.diagnosis.specs.declared.Heard.{Heard}
+use Rattle.diagnosis.specs.declared.TooLong.{TooLong}
+use Rattle.diagnosis.specs.declared.Verdict as code
+use Rattle.diagnosis.specs.declared.Verdict.TheVariants as verdict
+use Rattle.diagnosis.specs.declared.Monitor as code_monitor
+
+-- ---- a monitor, one of a refused beginning among them
+
+-- what has come of the bytes so far
+pub data Verdict : Type 0 where
+  Open : Verdict
+  Refused : Refusal → Verdict
+  Stopped : Stop → Verdict
+  Started : Verdict
+
+pub record Monitor : Type 0 where
+  pub head : State
+  pub hash : Context
+  pub position : Position
+  pub verdict : Verdict
+  pub digest : List ℕ
+
+-- a monitor that was told a part, and whether the part was taken
+pub record Heard : Type 0 where
+  pub taken : Bool
+  pub monitor : Monitor
+
+-- those of the code
+abbrev pub verdict_of : code.Verdict → Verdict
+verdict_of verdict.Open = Open
+verdict_of (verdict.Stopped s) = Stopped s
+verdict_of verdict.Started = Started
+
+abbrev pub monitor_of : code_monitor.Monitor → Monitor
+monitor_of w = record { head = w.head; hash = w.hash; position = w.position; verdict = verdict_of w.verdict; digest = w.digest }
+
+abbrev pub heard_of : Result (Unit {0}) TooLong → Monitor → Heard
+heard_of (Ok _) w = record { taken = true; monitor = w }
+heard_of (Err _) w = record { taken = false; monitor = w }
 
 -- ---- the beginning
 
@@ -50,6 +85,11 @@ opened r m =
       verdict = Open;
       digest = zeros 32;
     }
+
+-- a refused beginning gives no monitor: the one here hears nothing
+abbrev pub begun_of : Result code_monitor.Monitor Refusal → Monitor
+begun_of (Ok w) = monitor_of w
+begun_of (Err r) = closed (Refused r)
 
 -- types 0 to 3 have a program from flash, which no cable carries: 48
 abbrev pub by_source : Source → Contents → ℕ → Monitor

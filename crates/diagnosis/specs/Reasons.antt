@@ -1,10 +1,11 @@
 -- What a diagnosis tells: change request 13. The reasons, and the number and the values of each.
-use Rattle.std.specs.Prelude.{ℕ, List}
+use Rattle.std.specs.Prelude.{ℕ, List, Result, Ok, Err}
+use Rattle.endian.specs.Lists.{zeros}
 use Rattle.head.specs.Answers.{stop_number}
 use Rattle.diagnosis.specs.declared.Refusal.{Refusal}
 use Rattle.diagnosis.specs.declared.Refusal.TheVariants.{RecordLength, RamSize, FromFlash}
 use Rattle.diagnosis.specs.declared.Finding.{Finding}
-use Rattle.diagnosis.specs.declared.Finding.TheVariants.{Refused, Stopped, Unfinished, Waiting, Missing, Started}
+use Rattle.diagnosis.specs.declared.Finding.TheVariants.{Stopped, Unfinished, Waiting, Missing, Started}
 use Rattle.diagnosis.specs.declared.Diagnosis.{Diagnosis}
 
 -- the number of each refusal
@@ -28,13 +29,13 @@ pub data Reason : Type 0 where
   started : Reason
 
 -- i is the number of the last byte that was read
-abbrev pub reason_of : Finding → ℕ → Reason
-reason_of (Refused r) i = refused (refusal_number r)
-reason_of (Stopped s) i = stopped (stop_number s) i
-reason_of Unfinished i = unfinished
-reason_of Waiting i = waiting
-reason_of (Missing n) i = missing n
-reason_of Started i = started
+abbrev pub reason_of : Result Finding Refusal → ℕ → Reason
+reason_of (Err r) i = refused (refusal_number r)
+reason_of (Ok (Stopped s)) i = stopped (stop_number s) i
+reason_of (Ok Unfinished) i = unfinished
+reason_of (Ok Waiting) i = waiting
+reason_of (Ok (Missing n)) i = missing n
+reason_of (Ok Started) i = started
 
 -- the number of each reason, the one that a C program is given
 abbrev pub number_of : Reason → ℕ
@@ -53,12 +54,14 @@ pub record Explained : Type 0 where
   pub offset : ℕ
   pub digest : List ℕ
 
-abbrev pub explained_of : Diagnosis → Explained
-explained_of d =
+-- a refused diagnosis read no byte
+abbrev pub explained_of : Result Diagnosis Refusal → Explained
+explained_of (Ok d) =
     record {
-      reason = reason_of d.finding d.position.byte;
+      reason = reason_of (Ok d.finding) d.position.byte;
       byte = d.position.byte;
       frame = d.position.frame;
       offset = d.position.offset;
       digest = d.digest;
     }
+explained_of (Err r) = record { reason = refused (refusal_number r); byte = 0; frame = 0; offset = 0; digest = zeros 32 }

@@ -1,21 +1,17 @@
 // The bytes from the cable, one after the other.
-ghost use Rattle.std.specs.Prelude.{◌≡◌, true, ℕ, ◌+◌, ◌-◌, ◌<◌, ◌^◌, length};
+ghost use Rattle.std.specs.Prelude.{◌≡◌, true, ◌+◌, ◌-◌, ◌<◌, ◌^◌, length, ℕ, Ok};
 ghost use Rattle.protocol.specs.Commands.{blocks_for};
 ghost use Rattle.diagnosis.specs.Reasons.{reason_of};
-ghost use Rattle.diagnosis.specs.Monitor.{is_open, position_after, moved, heard_byte, counts_to, has_room, heard, heard_part, open_reason};
+ghost use Rattle.diagnosis.specs.Monitor.{monitor_of, verdict_of, is_open, position_after, moved, heard_byte, counts_to, has_room, heard, open_reason, by_verdict};
 
-use super::{Finding, Heard, Monitor, Position, Verdict, frames};
+use super::{Finding, Monitor, Position, Verdict, frames};
 use head::{Answer, Phase, State, Stop};
 
+// Whether the head goes on.
 fn is_open(v: Verdict) -> bool
-    ensures { result ≡ is_open v }
+    ensures { result ≡ is_open (verdict_of v) }
 {
-    match v {
-        Verdict::Open => true,
-        Verdict::Refused(_) => false,
-        Verdict::Stopped(_) => false,
-        Verdict::Started => false,
-    }
+    matches!(v, Verdict::Open)
 }
 
 // Where the next byte stands, if got bytes of its frame came before it.
@@ -23,10 +19,9 @@ fn position_after(p: Position, got: u8) -> Position
     requires { (p.byte + 1 < 2 ^ 64) × (p.frame + 1 < 2 ^ 64) }
     ensures { result ≡ position_after p got }
 {
-    let frame = if got == 0 { p.frame + 1 } else { p.frame };
     Position {
         byte: p.byte + 1,
-        frame,
+        frame: if got == 0 { p.frame + 1 } else { p.frame },
         offset: got,
     }
 }
@@ -34,125 +29,84 @@ fn position_after(p: Position, got: u8) -> Position
 // A byte was read, and the head is in this state.
 fn moved(w: Monitor, head: State) -> Monitor
     requires { (w.position.byte + 1 < 2 ^ 64) × (w.position.frame + 1 < 2 ^ 64) }
-    ensures { result ≡ moved w head }
+    ensures { monitor_of result ≡ moved (monitor_of w) head }
 {
-    let s = w.head;
-    let p = w.position;
-    let position = position_after(p, s.incoming.got);
-    let hash = w.hash;
-    let verdict = w.verdict;
-    let digest = w.digest;
     Monitor {
         head,
-        hash,
-        position,
-        verdict,
-        digest,
+        position: position_after(w.position, w.head.incoming.got),
+        ..w
     }
 }
 
 // A byte. None is read once the head has started or stopped.
 fn hear_byte(w: Monitor, b: u8) -> Monitor
     requires { (w.position.byte + 1 < 2 ^ 64) × (w.position.frame + 1 < 2 ^ 64) }
-    ensures { result ≡ heard_byte w b }
+    ensures { monitor_of result ≡ heard_byte (monitor_of w) b }
 {
-    let verdict = w.verdict;
-    if !is_open(verdict) {
+    if !is_open(w.verdict) {
         return w;
     }
-    let s = w.head;
-    let g = head::gather(s, b);
-    let answer = g.answer;
-    let next = g.state;
-    match answer {
-        Answer::Refused(_) => w,
-        Answer::Continue => moved(w, next),
-        Answer::Whole => frames::frame(moved(w, next)),
-        Answer::Stopped(_) => frames::ruled(moved(w, s), Verdict::Stopped(Stop::HeaderBit)),
-        Answer::Started {
-            address: _,
-            size: _,
-        } => w,
+    let Ok(step) = head::gather(w.head, b) else {
+        return w;
+    };
+    match step.answer {
+        Answer::Continue => moved(w, step.state),
+        Answer::Whole => frames::frame(moved(w, step.state)),
+        Answer::Stopped(_) => frames::ruled(moved(w, w.head), Verdict::Stopped(Stop::HeaderBit)),
+        Answer::Started(_) => w,
     }
-}
-
-// Whether the head goes on.
-fn is_live(w: Monitor) -> bool
-    ensures { result ≡ is_open w.verdict }
-{
-    let verdict = w.verdict;
-    is_open(verdict)
 }
 
 // Bytes, up to the one that a start or a stop comes of.
 pub fn hear_all(w: Monitor, bytes: &[u8]) -> Monitor
-    requires { has_room w (length bytes.now) ≡ true }
-    ensures { result ≡ heard w bytes.now }
+    requires { has_room (monitor_of w) (length bytes.now) ≡ true }
+    ensures { monitor_of result ≡ heard (monitor_of w) bytes.now }
 {
     let mut m = w;
-    let mut i: usize = 0;
-    while i < bytes.len() && is_live(m) {
-        let next = hear_byte(m, bytes[i]);
-        m = next;
-        i += 1;
+    for b in bytes {
+        if !is_open(m.verdict) {
+            return m;
+        }
+        m = hear_byte(m, *b);
     }
     m
 }
 
 // Whether n more bytes can be counted.
-fn has_room(p: Position, n: usize) -> bool
+pub fn has_room(p: Position, n: usize) -> bool
     ensures { result ≡ counts_to p n }
 {
-    let left = u64::MAX - (n as u64);
-    if left < p.byte {
-        return false;
-    }
-    p.frame <= left
-}
-
-// Tells a monitor the next part of the bytes.
-pub fn hear(w: Monitor, part: &[u8]) -> Heard
-    ensures { result ≡ heard_part w part.now }
-{
-    let p = w.position;
-    if !has_room(p, part.len()) {
-        return Heard {
-            taken: false,
-            monitor: w,
-        };
-    }
-    Heard {
-        taken: true,
-        monitor: hear_all(w, part),
-    }
+    let left = u64::MAX - n as u64;
+    p.byte <= left && p.frame <= left
 }
 
 // How many blocks are missing: the program's size, and the number of the block that is waited for.
 fn missing(size: u32, block: u32) -> u64
     ensures { result ≡ blocks_for size - block }
 {
-    let n = protocol::blocks_for(size);
-    let k = block as usize;
-    if n < k {
-        return 0;
-    }
-    (n - k) as u64
+    protocol::blocks_for(size).saturating_sub(block as usize) as u64
 }
 
 // What is found where the head goes on: an unfinished frame comes first.
-pub fn going_on(w: Monitor) -> Finding
-    ensures { (i : ℕ) → reason_of result i ≡ open_reason w.head }
+fn going_on(s: State) -> Finding
+    ensures { (i : ℕ) → reason_of (Ok result) i ≡ open_reason s }
 {
-    let s = w.head;
     if s.incoming.got != 0 {
         return Finding::Unfinished;
     }
-    let p = s.progress;
-    let phase = p.phase;
-    match phase {
-        Phase::Waiting => Finding::Waiting,
-        Phase::Loading => Finding::Missing(missing(p.size, p.block)),
-        Phase::Started => Finding::Waiting,
-        Phase::Stopped => Finding::Waiting,
+    match s.progress.phase {
+        Phase::Loading => Finding::Missing(missing(s.progress.size, s.progress.block)),
+        Phase::Waiting | Phase::Started | Phase::Stopped => Finding::Waiting,
+    }
+}
+
+// What is found.
+pub fn finding(w: Monitor) -> Finding
+    ensures { (i : ℕ) → reason_of (Ok result) i ≡ by_verdict (verdict_of w.verdict) w.head i }
+{
+    match w.verdict {
+        Verdict::Open => going_on(w.head),
+        Verdict::Stopped(why) => Finding::Stopped(why),
+        Verdict::Started => Finding::Started,
     }
 }
