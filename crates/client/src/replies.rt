@@ -1,5 +1,5 @@
 // The head's replies, as they are expected.
-ghost use Rattle.std.specs.Prelude.{◌≡◌, ◌+◌, ◌≤◌, ◌↔◌, length, All, is_some, unwrap_or, IfOk, IsTrue};
+ghost use Rattle.std.specs.Prelude.{◌≡◌, ◌+◌, ◌≤◌, length, is_some, unwrap_or, IfOk};
 ghost use Rattle.endian.specs.Lists.{zeros};
 ghost use Rattle.client.specs.Replies.{expected_of, expected_reply, difference_of, difference_in, digest_in, has_digest, said, said_by};
 
@@ -72,13 +72,6 @@ impl Kind {
     }
 }
 
-// Whether every byte is zero.
-fn all_zero(bytes: &[u8]) -> bool
-    ensures { IsTrue result ↔ All (λ b. b ≡ 0) bytes.now }
-{
-    bytes.iter().all(|&b| b == 0)
-}
-
 // Reads a reply, or says in what it differs from the one that is expected.
 #[tactic(auto, using(crate::proofs::Expected::no_header), unfolding(crate::specs::Replies::difference_in))]
 pub fn compare(x: Kind, id: u8, reply: &[u8]) -> Result<Taken, Difference>
@@ -104,7 +97,7 @@ pub fn compare(x: Kind, id: u8, reply: &[u8]) -> Result<Taken, Difference>
     if reply[2] != u8::from(h.status) {
         return Err(Difference::Status);
     }
-    if !all_zero(&reply[3 + x.digest_len()..]) {
+    if !reply[3 + x.digest_len()..].iter().all(|&b| b == 0) {
         return Err(Difference::Filler);
     }
     Ok(Taken {
