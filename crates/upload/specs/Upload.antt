@@ -1,6 +1,6 @@
 -- A load as the laptop goes through it, event by event: each frame is sent, and its reply read to its end, before the next one is. What a
 -- frame is and which reply is taken is change request 1, in `client`.
-use Rattle.std.specs.Prelude.{ℕ, ◌+◌, ◌-◌, ◌*◌, Bool, true, false, not, cond, Result, Ok, Err, List, [], ◌∷◌, eqb, leb, ltb, length, set, take}
+use Rattle.std.specs.Prelude.{ℕ, ◌+◌, ◌-◌, ◌*◌, Bool, true, false, not, cond, Ok, Err, List, [], ◌∷◌, eqb, leb, ltb, length, set, take}
 use Rattle.endian.specs.Lists.{zeros, same}
 use Rattle.blake2s.specs.Hash.{hash_output}
 use Rattle.framing.specs.Header.{fields_at, reply_body_len}
