@@ -2,7 +2,7 @@
 use Prim.Native.Nat.{ℕ, zero, suc, ◌+◌, ◌*◌, ◌/◌, ◌%◌, ◌<◌, ◌≤◌}
 use mathlib.Core.Bool.{Bool, true, false}
 use mathlib.Core.List.{List, [], ◌∷◌, ◌++◌, flatten}
-use mathlib.Core.Path.{◌≡◌, refl, sym, ap, ap₂, ◌∙◌}
+use mathlib.Core.Path.{◌≡◌, refl, ap, ap₂, ◌∙◌}
 use native.Mathlib.Omega.{arith}
 use native.Mathlib.Numerals.{add-one}
 use lib.Dec.{ltb}
@@ -20,7 +20,6 @@ use Rattle.spool_block.specs.declared.Fault.TheVariants.{Check, Number, Count}
 use Rattle.spool.specs.Reading.{part, blocks_in, block_at, refusal_at, earliest, bad_length, program_in, look_refusal}
 use Rattle.spool.specs.Salvage.{blocks_of}
 use Rattle.spool.specs.Steps.{verdicts, verdicts_from, uses_of}
-use Rattle.spool.specs.Theorems.{GoodLength}
 use Rattle.spool.proofs.Numbers.{good_length, length_good, look_block, look_behind}
 use Rattle.spool.proofs.Parts.{used_most}
 

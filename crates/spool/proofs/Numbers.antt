@@ -2,7 +2,7 @@
 use Prim.Native.Nat.{ℕ, zero, suc, ◌*◌, ◌/◌, ◌%◌, ◌<◌, ◌≤◌}
 use mathlib.Core.Bool.{Bool, true, false, cond, not, ◌||◌, ◌&&◌}
 use mathlib.Core.List.{List, flatten}
-use mathlib.Core.Path.{◌≡◌, refl, ap, ◌∙◌}
+use mathlib.Core.Path.{◌≡◌, refl}
 use native.Mathlib.Omega.{arith}
 use lib.Dec.{eqb, ltb, leb}
 use lib.ListN.{length}
@@ -13,7 +13,10 @@ use Rattle.endian.specs.Fields.{number_in}
 use Rattle.protocol.specs.Commands.{length_ok}
 use Rattle.protocol.specs.Replies.{put_in}
 use Rattle.spool_block.specs.Block.{number_field, count_in, good_check, good_count, good_filler, block_refusal}
-use Rattle.spool.specs.Answers.{outcome, given}
+use Rattle.spool.specs.Answers.{refusal_number, outcome, given, with_count}
+use Rattle.spool_block.specs.declared.Fault.TheVariants.{Check, Number, Count}
+use Rattle.spool.specs.declared.Refusal.{Refusal}
+use Rattle.spool.specs.declared.Refusal.TheVariants.{ProgramLength, SpoolLength, Block, RoomLength}
 use Rattle.spool.specs.Theorems.{GoodLength}
 use Rattle.spool.specs.Reading.{blocks_in, block_at, refusal_at, earliest, bad_length, read_refusal, look_refusal}
 use Rattle.spool.specs.Writing.{spool_blocks, write_refusal}
@@ -145,6 +148,16 @@ module _ (k : ℕ) (bytes room : List ℕ) where
   pub given_all : k ≡ 0 → given k bytes room ≡ outcome 0 (length bytes) (put_in room bytes)
   unfolding given
   given_all e = rw e
+
+-- a refusal's number is not 0, so a lent count stays
+pub told : (r : Refusal) (room : List ℕ) (len : ℕ) → outcome (refusal_number r) len room ≡ with_count (outcome (refusal_number r) 0 room) len
+unfolding with_count
+told ProgramLength room len = refl
+told SpoolLength room len = refl
+told (Block Check) room len = refl
+told (Block Number) room len = refl
+told (Block Count) room len = refl
+told RoomLength room len = refl
 
 module _ (s spares report : List ℕ) where
   pub salvage_refused : (k : ℕ) → salvage_refusal (length s) (length spares) (length report) ≡ k → (k ≡ 0 → ⊥) → salvaging s spares report ≡ salvaging_as k s report

@@ -1,7 +1,7 @@
 // Design spools for C: include/mastfrap.h.
 #![tactic(auto)]
 
-ghost use Rattle.std.specs.Prelude.{◌≡◌, []};
+ghost use Rattle.std.specs.Prelude.{◌≡◌, ℕ, List};
 ghost use Rattle.spool.specs.Answers.{number_of, outcome, outcome_of, with_count};
 ghost use Rattle.spool.specs.Reading.{reading, look_refusal};
 ghost use Rattle.spool.specs.Writing.{writing};
@@ -21,7 +21,7 @@ fn number(settled: Result<(), Refusal>) -> u32
 
 // The same where there is a count, which is written where the call was accepted.
 fn counted(done: Result<usize, Refusal>, len: &mut usize) -> u32
-    ensures { outcome result len.new [] ≡ with_count (outcome_of done []) len.old }
+    ensures { (room : List ℕ) → outcome result len.new room ≡ with_count (outcome_of done room) len.old }
 {
     match done {
         Ok(n) => {

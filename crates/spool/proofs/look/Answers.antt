@@ -1,11 +1,9 @@
 -- What the reader gives at the place (`look_head`), or that there is no such place (`look_none`).
-use Rattle.std.proofs.Common.{rules, ◌≡◌, Result, Err, ◌∷◌, ℕ, List, sym, ap, ap₂, ◌∙◌}
+use Rattle.std.proofs.Common.{rules, ◌≡◌, Result, Err, ◌∷◌, sym, ap, ap₂, ◌∙◌}
 use Rattle.spool_block.specs.Block.{number_of as fault_of}
 use Rattle.spool_block.specs.declared.Fault.{Fault}
 use Rattle.spool.specs.Answers.{refusal_number, number_of}
-use Rattle.spool.specs.Salvage.{blocks_of}
 use Rattle.spool.specs.Steps.{verdicts_from}
-use Rattle.spool.specs.declared.Refusal.{Refusal}
 use Rattle.spool.specs.declared.Refusal.TheVariants.{Block}
 use Rattle.spool.proofs.Chunks.{look_head, look_none}
 use Rattle.spool.proofs.Numbers.{look_length}

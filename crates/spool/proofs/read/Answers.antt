@@ -1,11 +1,10 @@
 -- Each way's number is that of its tests (`Numbers`), and what it leaves follows from the number (`Settles`).
-use Rattle.std.proofs.Common.{rules, ◌≡◌, ℕ, List, Err, Result, length, ◌*◌, ◌≤◌, ◌<◌, sym, ap, ap₂, ◌∙◌, arith}
+use Rattle.std.proofs.Common.{rules, ◌≡◌, Err, length, ◌*◌, ◌≤◌, ◌<◌, sym, ap, ap₂, ◌∙◌, arith}
 use Rattle.protocol.specs.Replies.{put_in}
 use Rattle.spool_block.specs.Block.{fault_number}
 use Rattle.spool.specs.Answers.{refusal_number, outcome, outcome_of}
 use Rattle.spool.specs.Reading.{blocks_in, earliest, program_in}
 use Rattle.spool.specs.Steps.{verdicts_from, uses_of}
-use Rattle.spool.specs.declared.Refusal.{Refusal}
 use Rattle.spool.specs.declared.Refusal.TheVariants.{Block}
 use Rattle.spool.proofs.Chunks.{blocks_many, verdicts_are, uses_are, fault_some}
 use Rattle.spool.proofs.Numbers.{read_length, read_room}

@@ -1,13 +1,12 @@
 -- Each way's number is that of its tests (`Numbers`), and what it leaves follows from the number.
-use Rattle.std.proofs.Common.{rules, ◌≡◌, ℕ, List, Err, false, length, ◌%◌, ◌<◌, ◌≤◌, sym, ap, ap₂, ◌∙◌, arith}
+use Rattle.std.proofs.Common.{rules, ◌≡◌, ℕ, List, Err, length, ◌%◌, ◌<◌, ◌≤◌, sym, ap, ap₂, ◌∙◌, arith}
 use mathlib.Core.List.{flatten}
 use borrow.Author.Tests.{eqb-true, eqb-false}
 use Rattle.endian.specs.Lists.{each}
 use Rattle.protocol.specs.Replies.{put_in}
 use Rattle.spool.specs.Answers.{refusal_number, number_of}
-use Rattle.spool.specs.Reading.{blocks_in, block_at, bad_length}
+use Rattle.spool.specs.Reading.{blocks_in, block_at}
 use Rattle.spool.specs.Salvage.{blocks_of, mended, salvaging_as}
-use Rattle.spool.specs.declared.Refusal.{Refusal}
 use Rattle.spool.proofs.Chunks.{blocks_many, chunks_are}
 use Rattle.spool.proofs.Numbers.{good_length, salvage_length, salvage_spares, salvage_room, salvage_fits, salvage_refused, salvage_all}
 use Rattle.spool.proofs.salvage.Goals as goal

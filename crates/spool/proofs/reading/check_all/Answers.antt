@@ -1,5 +1,5 @@
 -- What is left of the verdicts gives the first fault of all.
-use Rattle.std.proofs.Common.{rules, ◌≡◌, ℕ, List, ◌∷◌, Err, Result, sym, ap, ap₂, ◌∙◌}
+use Rattle.std.proofs.Common.{rules, ◌≡◌, ◌∷◌, Err, Result, sym, ap, ap₂, ◌∙◌}
 use Rattle.spool_block.specs.Block.{number_of}
 use Rattle.spool_block.specs.declared.Fault.{Fault}
 use Rattle.spool.specs.Reading.{earliest}

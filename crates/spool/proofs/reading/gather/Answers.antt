@@ -1,5 +1,5 @@
 -- Of i blocks at most 472i bytes have come, so the next one's fit (`uses_most`).
-use Rattle.std.proofs.Common.{◌≡◌, ℕ, List, [], ◌++◌, ◌*◌, ◌≤◌, ◌<◌, ◌+◌, length, take, get_or, sym, ap, ◌∙◌, arith, length-take, length-append}
+use Rattle.std.proofs.Common.{ℕ, List, [], ◌*◌, ◌≤◌, ◌+◌, length, take, get_or, sym, ap, ◌∙◌, arith, length-take, length-append}
 use Rattle.protocol.specs.Replies.{put_in}
 use Rattle.spool_block.specs.Block.{used_in}
 use Rattle.spool.specs.Steps.{uses_of}

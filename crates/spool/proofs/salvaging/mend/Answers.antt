@@ -1,5 +1,5 @@
 -- Each way's block is kept, lost or replaced (`Mending`).
-use Rattle.std.proofs.Common.{◌≡◌, true, false, sym, ap, ◌∙◌}
+use Rattle.std.proofs.Common.{◌≡◌, false, sym, ap, ◌∙◌}
 use Rattle.spool_block.specs.Block.{is_good}
 use Rattle.spool.specs.Salvage.{Mended}
 use Rattle.spool.proofs.Mending.{mended_kept, mended_none, mended_some}

@@ -1,5 +1,5 @@
 -- Each turn puts the next block behind what is there.
-use Rattle.std.proofs.Common.{◌≡◌, length}
+use Rattle.std.proofs.Common.{◌≡◌}
 use Rattle.protocol.specs.Replies.{put_in}
 use Rattle.spool_block.specs.Making.{block_of}
 use Rattle.spool.specs.Reading.{part}
