@@ -42,7 +42,7 @@ loop_is (b ∷ bytes) o n s h =
         ≡ cond t (record { printed = call_text o; read = 296 + n })
         (behind (call_text o) (output_from (after_byte o.state o.uds o.ram b) (n + 1) bytes))
     go e a next true = rw append-nil
-    go e a next false = rw (e, a, next)
+    go e a next false = rw (e, a) (ap (behind (call_text o)) next)
 
 short : (input : List ℕ) (m : ℕ) → length input < 296 → turns input m ≡ output input m
 unfolding output opening

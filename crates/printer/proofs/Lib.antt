@@ -1,4 +1,4 @@
-pub mod Texts
+pub mod Bytes
 pub mod Lengths
 pub mod Folds
 pub mod NoFlash
