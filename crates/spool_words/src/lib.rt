@@ -1,7 +1,7 @@
 // The words of a spool that does not read, for each command that takes one. In specs/, Words has them all.
 #![tactic(auto)]
 
-ghost use Rattle.std.specs.Prelude.{◌≡◌};
+ghost use Rattle.std.specs.Prelude.{◌≡◌, eqb};
 ghost use Rattle.text.specs.Text.{text_of};
 ghost use Rattle.spool.specs.Answers.{number_of};
 ghost use Rattle.spool_words.specs.Words.{fault_words, block_words, good_before, refusal_words};
@@ -67,8 +67,18 @@ pub fn refusal(bytes: &[u8]) -> Text
 {
     let place = good_before(bytes);
     let answer = spool::look(bytes, place);
-    if answer == Err(Refusal::SpoolLength) {
+    if is_length(answer) {
         return Text::of(Wrong(answer));
     }
     Text::of(WrongBlock { place, answer })
+}
+
+fn is_length(answer: Result<(), Refusal>) -> bool
+    ensures { result ≡ eqb (number_of answer) 50 }
+{
+    match answer {
+        Err(Refusal::SpoolLength) => true,
+        Err(Refusal::Block(Fault::Check | Fault::Number | Fault::Count)) => false,
+        Ok(()) | Err(Refusal::ProgramLength | Refusal::RoomLength) => false,
+    }
 }
