@@ -4,12 +4,11 @@ use native.Mathlib.Omega.{arith}
 use mathlib.Core.Path.{◌≡◌}
 use mathlib.Core.List.{List, []}
 use lib.ListN.{length}
-use borrow.Author.Tests.{le-ltb}
 use Rattle.rfc7693.specs.Rfc7693.{blake2s}
-use Rattle.blake2s.specs.Hash.{hash_number, hash_output}
+use Rattle.blake2s.proofs.Numbers.{digest_zeros}
 use Rattle.upload.specs.Upload.{job_of}
 
 pub job_is : (program : List ℕ) (id wait : ℕ) → length program ≤ 131072
     → job_of program id wait ≡ record { len = length program; id = id; digest = blake2s [] program 32; wait = wait }
-unfolding job_of hash_output hash_number
-job_is program id wait h = rw (le-ltb 4294967295 (length program) (omega arith))
+unfolding job_of
+job_is program id wait h = rw (digest_zeros program (omega arith))
