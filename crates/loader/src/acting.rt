@@ -102,7 +102,8 @@ fn act_block(s: State, room: &mut [u8; 129], ram: &mut [u8], uds: &mut [u32; 8])
     answer(s, head::next_block(p), protocol::block_reply(s.incoming.header), room)
 }
 
-// A whole frame of a call that is not refused.
+// A whole frame of a call that is not refused. That RAM is short stays a `requires`, here and in three functions more: a struct of the lent RAM
+// with this as a ghost field is not covered where it is passed on ("a parameter that holds a `&mut [T]` which the caller gets back").
 pub fn perform(s: State, room: &mut [u8; 129], ram: &mut [u8], uds: &mut [u32; 8]) -> Acted
     requires ram_value { progress_ok s.progress (length ram.old) ≡ true }
     requires ram_len_bound { length ram.old ≤ longest }
