@@ -11,14 +11,10 @@ fn main(rt: HostRuntime) {
     let mut front = [0u8; 296];
     let got = input::read_full(&mut rt.stdin(), &mut front);
     let mut t = printer::open(front, got, &mut ram);
-    let lines = t.text;
-    let _ = text::write(&mut rt.stdout(), lines);
-    while !t.over {
-        let session = t.session;
-        let next = printer::advance(session, read(&mut rt.stdin()), &mut ram);
-        t = next;
-        let lines = t.text;
-        let _ = text::write(&mut rt.stdout(), lines);
+    let _ = text::write(&mut rt.stdout(), t.text);
+    while let Some(session) = t.session {
+        t = printer::advance(session, read(&mut rt.stdin()), &mut ram);
+        let _ = text::write(&mut rt.stdout(), t.text);
     }
 }
 
