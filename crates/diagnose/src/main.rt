@@ -5,7 +5,7 @@
 
 mod words;
 
-use diagnosis::{Monitor, Verdict};
+use diagnosis::{Monitor, TooLong, Verdict};
 use input::{Command, Failure};
 use std::io::Read;
 use std::ops::ControlFlow;
@@ -56,17 +56,13 @@ fn hear_file<F: Read>(
     if !is_open(monitor) {
         return Ok(monitor);
     }
-    let read = input::read_parts(file, |part| {
-        let heard = monitor.hear(part);
-        if heard.is_ok() && is_open(monitor) {
-            ControlFlow::Continue(())
-        } else {
-            ControlFlow::Break(heard)
-        }
+    let read = input::read_parts(file, |part| match monitor.hear(part) {
+        Ok(()) if is_open(monitor) => ControlFlow::Continue(()),
+        heard => ControlFlow::Break(heard),
     });
     match read {
         Err(why) => Err(COMMAND.fail(rt, name, why)),
-        Ok(ControlFlow::Break(Err(_))) => Err(COMMAND.refuse(rt, name, too_long())),
+        Ok(ControlFlow::Break(Err(TooLong))) => Err(COMMAND.refuse(rt, name, too_long())),
         Ok(_) => Ok(monitor),
     }
 }

@@ -3,7 +3,7 @@ use Rattle.std.proofs.Common.{ℕ, ◌-◌, ◌^◌, Option, None, Some}
 use Rattle.printer.specs.declared.turns.Session.{Session}
 use Rattle.headlog.proofs.main.Given as goal
 
-left : Option Session → ℕ
+abbrev pub left : Option Session → ℕ
 left None = 0
 left (Some s) = 2 ^ 64 - s.received
 
