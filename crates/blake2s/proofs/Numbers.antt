@@ -11,22 +11,26 @@ use Rattle.endian.proofs.Cases.{impossible}
 use Rattle.rfc7693.specs.Rfc7693.{blake2s}
 use Rattle.endian.specs.Lists.{zeros}
 use Rattle.std.specs.Prelude.{Result, Ok, Err, IsErr, IsErrAnd}
-use Rattle.blake2s.specs.Hash.{refusal_number, number_of, hash_number, hash_output}
+use Rattle.blake2s.specs.Hash.{refusal_number, number_of, bad_size, hash_number, hash_output}
 use Rattle.blake2s.specs.declared.Refusal.{Refusal}
 use Rattle.blake2s.specs.declared.Refusal.TheVariants.{ContextRange, OutputLength, KeyLength, MessageLength}
 use Rattle.blake2s.specs.Stream.{in_range, refused_context, context_of, update_number, finish_number}
 use Rattle.blake2s.specs.declared.Context.{Context}
 
+pub good_size : (nn : ℕ) → bad_size nn ≡ false → (0 < nn) × (nn ≤ 32)
+good_size nn e = go (eqb nn 0) (ltb 32 nn) refl refl e
+  where
+    go : (x y : Bool) → eqb nn 0 ≡ x → ltb 32 nn ≡ y → (x || y) ≡ false → (0 < nn) × (nn ≤ 32)
+    go false false p q r = (omega (arith, eqb-false nn 0 p), ltb-false 32 nn q)
+    go false true p q r = impossible cc
+    go true y p q r = impossible cc
+
 module _ (kk ll nn : ℕ) where
-  pub hash_none : nn ≡ 0 → hash_number kk ll nn ≡ 8
+  pub hash_size : bad_size nn ≡ true → hash_number kk ll nn ≡ 8
   unfolding hash_number
-  hash_none e = simp (eq-eqb nn 0 e)
+  hash_size e = rw e
 
   module _ (p : 0 < nn) where
-    pub hash_over : 32 < nn → hash_number kk ll nn ≡ 8
-    unfolding hash_number
-    hash_over h = simp (ne_eqb nn 0 (λ e. omega arith), lt-ltb 32 nn h)
-
     module _ (h : nn ≤ 32) where
       pub hash_key : 32 < kk → hash_number kk ll nn ≡ 9
       unfolding hash_number
@@ -93,12 +97,11 @@ accepted_lengths kk ll nn = go (eqb nn 0) (ltb 32 nn) (ltb 32 kk) (ltb 429496729
 module _ (c : Context) where
   pub range_size : in_range c ≡ true → (0 < c.size) × (c.size ≤ 32)
   unfolding in_range
-  range_size e = go (eqb c.size 0) (ltb 32 c.size) refl refl e
+  range_size e = good_size c.size (go (bad_size c.size) e)
     where
-      go : (x y : Bool) → eqb c.size 0 ≡ x → ltb 32 c.size ≡ y → not (x || y) ≡ true → (0 < c.size) × (c.size ≤ 32)
-      go false false p q r = (omega (arith, eqb-false c.size 0 p), ltb-false 32 c.size q)
-      go false true p q r = impossible cc
-      go true y p q r = impossible cc
+      go : (x : Bool) → not x ≡ true → x ≡ false
+      go false r = refl
+      go true r = impossible cc
 
   pub size_range : 0 < c.size → c.size ≤ 32 → in_range c ≡ true
   unfolding in_range

@@ -6,8 +6,8 @@ mod stream;
 
 ghost use Rattle.std.specs.Prelude.{◌≡◌, [], length};
 ghost use Rattle.endian.specs.Lists.{zeros};
-ghost use Rattle.blake2s.specs.Hash.{refusal_number, number_of, hash_number, hash_output};
-ghost use Rattle.blake2s.specs.Stream.{begin_number, context_of, begin_context, update_number, update_context, finish_number, finish_output, refused_context};
+ghost use Rattle.blake2s.specs.Hash.{refusal_number, number_of, bad_size, hash_number, hash_output};
+ghost use Rattle.blake2s.specs.Stream.{in_range, begin_number, context_of, begin_context, update_number, update_context, finish_number, finish_output, refused_context};
 
 // Why a call was refused; it then changed nothing.
 #[derive(Clone, Copy, Debug, PartialEq, Eq)]
@@ -67,6 +67,12 @@ impl Default for Context {
 }
 
 impl Context {
+    fn in_range(&self) -> bool
+        ensures { result ≡ in_range self.now }
+    {
+        !bad_size(self.size)
+    }
+
     // Begins a hash of size bytes, 1 to 32, with a key of up to 32 bytes, empty for none.
     pub fn begin(key: &[u8], size: usize) -> Result<Context, Refusal>
         ensures { (number_of result ≡ begin_number (length key.now) size) × (context_of result ≡ begin_context key.now size) }
@@ -79,7 +85,7 @@ impl Context {
     pub fn update(&mut self, part: &[u8]) -> Result<(), Refusal>
         ensures { (number_of result ≡ update_number self.old (length part.now)) × (self.new ≡ update_context self.old part.now) }
     {
-        if !stream::in_range(*self) {
+        if !self.in_range() {
             return Err(Refusal::ContextRange);
         }
         let left = u32::MAX - self.message;
@@ -94,7 +100,7 @@ impl Context {
     pub fn finish(&self, out: &mut [u8]) -> Result<(), Refusal>
         ensures { (number_of result ≡ finish_number self.now (length out.old)) × (out.new ≡ finish_output self.now out.old) }
     {
-        if !stream::in_range(*self) {
+        if !self.in_range() {
             return Err(Refusal::ContextRange);
         }
         if out.len() != self.size {
@@ -105,11 +111,18 @@ impl Context {
     }
 }
 
+// No hash has 0 bytes or more than 32.
+fn bad_size(size: usize) -> bool
+    ensures { result ≡ bad_size size }
+{
+    size == 0 || 32 < size
+}
+
 // Whether a hash of size bytes can be made with a key and a message of these lengths: the lowest refusal, or none.
 fn check_lengths(key: usize, msg: usize, size: usize) -> Result<(), Refusal>
     ensures { number_of result ≡ hash_number key msg size }
 {
-    if size == 0 || 32 < size {
+    if bad_size(size) {
         return Err(Refusal::OutputLength);
     }
     if 32 < key {

@@ -7,4 +7,4 @@ pub returns : goal.returns
 unfolding begun
 returns c =
     let a = c.args in
-    rw (c.first_state.ensures, c.copy.ensures, copied_padded a.key.now)
+    rw (c.first_state.ensures, c.paste.ensures, copied_padded a.key.now)

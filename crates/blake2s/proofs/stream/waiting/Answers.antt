@@ -1,7 +1,7 @@
 -- Arithmetic: the final block of n bytes starts at 64 * earlier n.
 use native.Mathlib.Omega.{arith}
 use Rattle.blake2s.specs.Stream.{earlier}
-use Rattle.blake2s.proofs.stream.fill.Goals as goal
+use Rattle.blake2s.proofs.stream.waiting.Goals as goal
 
 pub returns-then-n-eq0 : goal.returns-then-n-eq0
 unfolding earlier
