@@ -91,7 +91,3 @@ after_split (suc n) k h t d e l =
       q,
       ← drop-drop (64 * n) 64 d,
     ) (after_split n k g (t + 64) (drop 64 d) e (omega arith))
-
-pub words_length : (x : List ℕ) → length (words x) ≡ 16
-unfolding words
-words_length x = refl

@@ -1,44 +1,20 @@
 -- A context: how its parts follow from how many bytes have come, and what a part of the message does to it.
 use mathlib.Core.Path.{◌≡◌, refl, ap, sym, ◌∙◌}
-use mathlib.Core.Bool.{Bool, true, false, cond}
+use mathlib.Core.Bool.{false}
 use mathlib.Core.List.{List, ◌++◌, append-nil}
 use Prim.Native.Nat.{ℕ, suc, ◌+◌, ◌-◌, ◌*◌, ◌<◌, ◌≤◌}
 use native.Mathlib.Nat.{zero-add}
 use native.Mathlib.Omega.{arith}
-use lib.ListN.{length, get_or, set, take, drop, length-append, length-drop, length-replicate, length-take, get_or-replicate}
-use lib.Seq.{take_at, take_all, paste, paste-suc, length-paste, take-paste, drop-append-add, take-append-add, length-take-le, take-length, drop-length, drop-drop}
+use lib.ListN.{length, take, drop, length-append, length-drop}
+use lib.Seq.{take_at, paste, length-paste, drop-append-add, take-append-add, length-take-le, take-length, drop-length, drop-drop}
 use Rattle.rfc7693.specs.Rfc7693.{F, words, block_at}
 use Rattle.endian.specs.Lists.{padded, zeros}
 use Rattle.blake2s.specs.Steps.{compressed_blocks, waiting_then, state_after, block_after}
 use Rattle.blake2s.specs.Stream.{earlier, total, done, waiting, extended}
 use Rattle.blake2s.specs.declared.Context.{Context}
 use Rattle.endian.proofs.Lists.{drop_replicate}
-use Rattle.rfc7693.proofs.Blocks.{length_padded, block_full, block_last, block_behind}
+use Rattle.rfc7693.proofs.Blocks.{block_full, block_last, block_behind}
 use Rattle.blake2s.proofs.Blocks.{blocks_one, after_zero, after_suc, after_blocks}
-
--- what is written to a block b: zeros from a place on, one at each turn,
-module _ (b : List ℕ) (long : length b ≡ 64) (at : ℕ) where
-  pub zeros_more : (i : ℕ) → at ≤ i → i < 64 → set (paste b at (zeros (64 - at)) (i - at)) i 0 ≡ paste b at (zeros (64 - at)) (i + 1 - at)
-  zeros_more i g h =
-      let z = zeros (64 - at) in
-      let j = i - at in
-      let q : length z ≡ 64 - at = length-replicate (64 - at) 0 in
-      let e : i ≡ at + j = omega arith in
-      let o : 0 ≡ get_or z j 0 = sym (get_or-replicate (64 - at) j 0 0 (omega arith)) in
-      let n : suc j ≡ i + 1 - at = omega arith in
-      ap (λ (k : ℕ). set (paste b at z j) k 0) e ∙ ap (set (paste b at z j) (at + j)) o ∙ paste-suc b at z j 0 (omega arith) (omega arith) ∙ ap (paste b at z) n
-
-  pub zeros_all : at ≤ 64 → paste b at (zeros (64 - at)) (64 - at) ≡ padded 64 (take at b)
-  zeros_all h =
-      let m = 64 - at in
-      let q : length (zeros m) ≡ m = length-replicate m 0 in
-      let w : length (take at b) ≡ at = length-take-le at b (omega arith) in
-      let f : at + m ≡ length b = omega arith in
-      rw (take_all m (zeros m) (omega arith), f, drop-length, w) (append-nil (take at b ++ zeros m))
-
-  -- and bytes s, behind which the zeros come
-  pub put_padded : (s : List ℕ) → at ≤ 64 → padded 64 (take (at + length s) (paste b at s (length s))) ≡ padded 64 (take at b ++ s)
-  put_padded s h = rw (take-paste b at s (length s) (omega arith) (omega arith), take-length)
 
 -- s at the front of zeros
 pub copied_padded : (s : List ℕ) → paste (zeros 64) 0 s (length s) ≡ padded 64 s
@@ -59,11 +35,6 @@ earlier_sum m k = omega arith
 -- a block that is padded gives back its bytes
 take_padded : (x : List ℕ) (n : ℕ) → length x ≡ n → take n (padded 64 x) ≡ x
 take_padded x n e = take_at x _ n e
-
--- a key's block and the message
-pub bytes_bound : (keyed : Bool) (m : ℕ) → cond keyed 64 0 + m ≤ m + 64
-bytes_bound true m = omega arith
-bytes_bound false m = omega arith
 
 module _ (c : Context) (long : length c.block ≡ 64) where
   pub waits : length (waiting c) ≡ total c - done c
@@ -117,13 +88,6 @@ module _ (c : Context) (long : length c.block ≡ 64) where
     waits_padded =
         let d = waiting c ++ s in
         rw waiting_extended (sym (block_last d (earlier (length d)) (last_fits (length d)).1))
-
--- the block that waits is a whole one
-pub after_long : (block : List ℕ) (n : ℕ) (s : List ℕ) → length (block_after block n s) ≡ 64
-unfolding block_after block_at
-after_long block n s =
-    let d = waiting_then block n s in
-    length_padded (take 64 (drop (64 * earlier (length d)) d)) (rw length-take (omega arith))
 
 module _ (block : List ℕ) (n at : ℕ) (long : length block ≡ 64) (sum : 64 * earlier n + at ≡ n) (fits : at ≤ 64) (s : List ℕ) where
   waits_long : length (take at block) ≡ at
@@ -206,13 +170,6 @@ module _ (block : List ℕ) (n at : ℕ) (long : length block ≡ 64) (sum : 64 
           after_suc h (64 * earlier n) d (earlier (length rest)),
           behind,
         )
-
-    -- how far the blocks of rest reach
-    pub from_fits : {k : ℕ} → k ≡ earlier (length rest) → (room + 64 * k ≤ length s) × (0 + length s ≤ 64 + (room + 64 * k)) × (64 * k ≤ length rest)
-    from_fits ek =
-        let b : length rest ≡ length s - room = rw (p, length-drop) in
-        let g = last_fits (length rest) in
-        rw ek (omega arith)
 
     pub block_long : {k : ℕ} → k ≡ earlier (length rest) → padded 64 (drop (room + 64 * k) s) ≡ block_after block n s
     unfolding block_after

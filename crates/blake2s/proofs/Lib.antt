@@ -1,4 +1,3 @@
-pub mod Loops
 pub mod Blocks
 pub mod Contexts
 pub mod Numbers

@@ -1,5 +1,5 @@
 -- What `array::from_fn` gives, where each call leaves what the closure reads as it was: the list of its values.
-use Rattle.std.proofs.Common.{◌≡◌, ℕ, zero, suc, ◌+◌, ◌<◌, List, length, get_or, ◌∙◌, sym}
+use Rattle.std.proofs.Common.{◌≡◌, ℕ, zero, suc, ◌+◌, ◌<◌, List, get_or, ◌∙◌, sym}
 use native.Mathlib.Omega.{arith}
 use denote.Param.Members.{Mut, Called}
 use Rattle.std.proofs.lemmas.List.{ext_get_or}

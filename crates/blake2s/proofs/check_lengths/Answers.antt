@@ -1,8 +1,6 @@
 -- Each return has the number that the tests on the way to it leave.
-use mathlib.Core.Path.{◌≡◌, sym, ◌∙◌}
-use mathlib.Core.Bool.{false}
+use mathlib.Core.Path.{sym, ◌∙◌}
 use native.Mathlib.Omega.{arith}
-use Rattle.blake2s.specs.Hash.{bad_size}
 use Rattle.blake2s.proofs.Numbers.{good_size, hash_size, hash_key, hash_message, hash_accepted}
 use Rattle.blake2s.proofs.check_lengths.Goals as goal
 

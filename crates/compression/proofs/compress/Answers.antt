@@ -1,5 +1,5 @@
 -- The two halves of the vector after the rounds go into the state, as F says.
-use Rattle.std.proofs.Common.{◌≡◌, ℕ, ◌+◌, get_or, ap, refl, ◌∙◌}
+use Rattle.std.proofs.Common.{◌≡◌, ◌+◌, get_or, ap, refl, ◌∙◌}
 use lib.Bits.{bit_xor}
 use Rattle.compression.proofs.Steps.{next_state}
 use Rattle.compression.proofs.FromFn.{made}

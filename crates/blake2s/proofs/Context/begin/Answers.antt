@@ -1,5 +1,5 @@
 -- An accepted begin has lengths in range; a refused one has the context that is refused later.
-use mathlib.Core.Path.{◌≡◌, sym, ◌∙◌}
+use mathlib.Core.Path.{sym, ◌∙◌}
 use lib.ListN.{length}
 use borrow.Author.Tests.{ne_eqb}
 use Rattle.blake2s.specs.Hash.{hash_number}

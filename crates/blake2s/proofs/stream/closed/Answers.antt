@@ -9,13 +9,7 @@ use Rattle.endian.specs.Lists.{padded}
 use Rattle.endian.proofs.Words.{bytes_front}
 use Rattle.rfc7693.specs.Rfc7693.{F, words}
 use Rattle.blake2s.specs.Stream.{earlier, total, done, waiting, closed}
-use Rattle.blake2s.proofs.Contexts.{bytes_bound}
 use Rattle.blake2s.proofs.stream.closed.Goals as goal
-
-pub close-requires : goal.close-requires
-close-requires c =
-    let o = bytes_bound c.args.c.keyed c.args.c.message in
-    omega arith
 
 pub returns : goal.returns
 unfolding closed waiting done total

@@ -1,15 +1,7 @@
 -- The state and the block are those that `absorb` ensures.
-use native.Mathlib.Omega.{arith}
 use Rattle.blake2s.specs.Steps.{state_after, block_after}
 use Rattle.blake2s.specs.Stream.{total, done, waiting, extended}
-use Rattle.blake2s.proofs.Contexts.{bytes_bound}
 use Rattle.blake2s.proofs.stream.extended.Goals as goal
-
-pub absorb-requires : goal.absorb-requires
-absorb-requires c =
-    let a = c.args in
-    let o = bytes_bound a.c.keyed a.c.message in
-    omega arith
 
 pub returns : goal.returns
 unfolding extended state_after block_after waiting done total

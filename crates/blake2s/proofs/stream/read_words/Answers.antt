@@ -1,5 +1,5 @@
 -- The words are those of the definition.
-use Rattle.std.proofs.Common.{◌≡◌, ℕ, ◌*◌, ap, refl, ◌∙◌}
+use Rattle.std.proofs.Common.{◌≡◌, ◌*◌, ap, refl, ◌∙◌}
 use Rattle.endian.specs.Endian.{word}
 use Rattle.rfc7693.specs.Rfc7693.{words}
 use Rattle.compression.proofs.FromFn.{made}

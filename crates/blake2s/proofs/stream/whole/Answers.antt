@@ -1,23 +1,8 @@
 -- The message as one part gives the hash (`in_one`).
-use mathlib.Core.Bool.{not}
-use native.Mathlib.Omega.{arith}
-use lib.Dec.{eqb}
 use lib.ListN.{length}
-use Rattle.blake2s.proofs.Contexts.{bytes_bound, copied_padded}
+use Rattle.blake2s.proofs.Contexts.{copied_padded}
 use Rattle.blake2s.proofs.Streams.{in_one}
 use Rattle.blake2s.proofs.stream.whole.Goals as goal
-
-pub absorb-requires : goal.absorb-requires
-absorb-requires c =
-    let a = c.args in
-    let o = bytes_bound (not (eqb (length a.key.now) 0)) 0 in
-    omega arith
-
-pub close-requires : goal.close-requires
-close-requires c =
-    let a = c.args in
-    let o = bytes_bound (not (eqb (length a.key.now) 0)) (length a.msg.now) in
-    omega (arith, o, c.bytes_in-2.ensures, c.requires.1)
 
 pub returns : goal.returns
 returns c =
