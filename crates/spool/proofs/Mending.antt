@@ -100,7 +100,3 @@ module _ (n i : ℕ) where
 -- what then stands there has 512 bytes
 pub mended_whole : (n i : ℕ) (x b : List ℕ) → length b ≡ 512 → length (mended n i (blocks_of x) b).block ≡ 512
 mended_whole n i x b l = by_mended n i x b (λ m. length m.block ≡ 512) (λ e. l) (λ k e f h. block_whole x k h) (λ e z. l)
-
--- what is looked at of a spool
-pub same_place : (s t x : List ℕ) (i : ℕ) → length t ≡ length s → block_at t i ≡ block_at s i → mended_at t x i ≡ mended_at s x i
-same_place s t x i e b = rw (e, b)

@@ -68,13 +68,6 @@ module _ (s : List ℕ) (room : ℕ) where
     read_blocks h = rw (g, le-ltb room (472 * blocks_in s) h)
 
 -- writing
-pub length_most : (n : ℕ) → length_ok n ≡ true → n ≤ 131072
-length_most n = go (leb 1 n)
-  where
-    go : (t : Bool) → t && leb n 131072 ≡ true → n ≤ 131072
-    go true e = leb-true n 131072 e
-    go false e = impossible cc
-
 module _ (n room : ℕ) where
   pub write_length : length_ok n ≡ false → write_refusal n room ≡ 40
   unfolding write_refusal

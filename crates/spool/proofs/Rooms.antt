@@ -24,13 +24,6 @@ put_all old x e = rw (e, drop-length old) (append-nil x)
 pub paste_put : (at : ℕ) (x l : List ℕ) → at + length x ≤ length l → paste l at x (length x) ≡ put_at at x l
 paste_put at x l h = paste_all l at x (length x) refl ∙ rw (← drop-drop (length x) at l, ← append_assoc) (sym (put_fits at x l h))
 
--- a part put where it stands
-pub put_same : (at n : ℕ) (l : List ℕ) → at + n ≤ length l → put_at at (take n (drop at l)) l ≡ l
-put_same at n l h =
-    let m : length (take n (drop at l)) ≡ n = length-take-le n (drop at l) (rw length-drop (omega arith)) in
-    put_fits at (take n (drop at l)) l (rw m h)
-    ∙ rw (m, append_assoc (take at l) (take n (drop at l)) (drop n (drop at l)), take-append-drop n (drop at l)) (take-append-drop at l)
-
 module _ (old x : List ℕ) where
   pub put_length : length x ≤ length old → length (put_in old x) ≡ length old
   unfolding put_in

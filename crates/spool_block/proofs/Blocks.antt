@@ -32,15 +32,7 @@ module _ (n i : ℕ) (b : List ℕ) where
     bad_number h = rw (k, ne_eqb (number_in number_field b) i h)
 
     module _ (m : number_in number_field b ≡ i) where
-      pub bad_count : good_count n i (count_in b) ≡ false → block_refusal n i b ≡ 53
-      unfolding block_refusal
-      bad_count e = rw (k, eq-eqb (number_in number_field b) i m, e)
-
       module _ (c : good_count n i (count_in b) ≡ true) where
-        pub bad_filler : good_filler b ≡ false → block_refusal n i b ≡ 53
-        unfolding block_refusal
-        bad_filler e = rw (k, eq-eqb (number_in number_field b) i m, c, e)
-
         pub good_block : good_filler b ≡ true → block_refusal n i b ≡ 0
         unfolding block_refusal
         good_block e = rw (k, eq-eqb (number_in number_field b) i m, c, e)
