@@ -4,6 +4,7 @@ use mathlib.Core.Bool.{Bool, true, false, not, cond, and-eq-true_iff}
 use mathlib.Core.Path.{◌≡◌, refl, sym, ap, subst, ◌∙◌}
 use mathlib.Core.List.{List, [], ◌∷◌}
 use native.Mathlib.Omega.{arith}
+use Rattle.std.specs.Prelude.{Err}
 use native.Mathlib.Numerals.{add-one}
 use lib.Dec.{eqb, ltb}
 use lib.ListN.{length, get_or, drop, drop_of_length-le}
@@ -17,9 +18,10 @@ use Rattle.head.specs.Gather.{gathered}
 use Rattle.head.specs.Act.{Request, asks_name, asks_udi, gives_load, gives_block, halts, request_of, takes}
 use Rattle.head.specs.declared.State.{State}
 use Rattle.head.proofs.Ranges.{by_test}
-use Rattle.diagnosis.specs.Monitor.{nowhere, closed, opened, by_source, begun, load_heard, block_heard, frame_heard, position_after, moved, by_report, is_open, heard_byte, heard, has_room}
+use Rattle.diagnosis.specs.Reasons.{explained_of}
+use Rattle.diagnosis.specs.Monitor.{Monitor, Refused, explained, diagnosis, nowhere, closed, opened, by_source, begun, load_heard, block_heard, frame_heard, position_after, moved, by_report, is_open, heard_byte, heard, has_room}
 use Rattle.diagnosis.specs.declared.Position.{Position}
-use Rattle.diagnosis.specs.declared.Monitor.{Monitor}
+use Rattle.diagnosis.specs.declared.Refusal.{Refusal}
 
 -- ---- the counts
 
@@ -122,3 +124,9 @@ begun_nowhere rec m =
 pub room_first : (rec : List ℕ) (m n : ℕ) → n < 2 ^ 64 → has_room (begun rec m) n ≡ true
 unfolding has_room
 room_first rec m n h = rw (begun_nowhere rec m, lt-ltb (0 + n) (2 ^ 64) (omega arith))
+
+-- a refused beginning hears nothing
+pub refused_told : (rec : List ℕ) (m : ℕ) (bytes : List ℕ) (r : Refusal) → closed (Refused r) ≡ begun rec m → explained_of (Err r) ≡ diagnosis rec m bytes
+unfolding diagnosis explained closed
+refused_told rec m bytes r e =
+    ap explained (heard_ended (closed (Refused r)) bytes refl ∙ ap (λ (w : Monitor). heard w bytes) e)

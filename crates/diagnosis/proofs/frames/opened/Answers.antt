@@ -4,4 +4,4 @@ use Rattle.diagnosis.proofs.frames.opened.Goals as goal
 
 pub returns : goal.returns
 unfolding opened
-returns c = rw (c.monitor.ensures, c.of_size-progress.ensures, c.idle-incoming.ensures, c.config_of-config.ensures)
+returns c = rw (c.monitor.ensures, c.of_size.ensures, c.idle.ensures, c.config_of.ensures)
