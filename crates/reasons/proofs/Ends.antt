@@ -16,8 +16,7 @@ use Rattle.session.proofs.Entries.{among_later, among_cases, among_none}
 use Rattle.session.proofs.Walk.{Answered}
 use Rattle.diagnosis.specs.Reasons.{Reason, stopped, missing, started}
 use Rattle.diagnosis.specs.Reasons as reason
-use Rattle.diagnosis.specs.declared.Verdict.TheVariants.{Open, Started, Stopped}
-use Rattle.diagnosis.specs.declared.Monitor.{Monitor}
+use Rattle.diagnosis.specs.Monitor.{Open, Started, Stopped, Monitor, nowhere, load_heard, block_heard, frame_heard, carried_in, by_verdict}
 use Rattle.reasons.specs.Theorems.{is_measured, end_at, ends_of, goes_on, Stands}
 use Rattle.head.specs.Start.{allowed}
 use Rattle.head.specs.Act.{Request, asks_name, asks_udi, gives_load, gives_block, halts, takes}
@@ -25,7 +24,6 @@ use Rattle.head.proofs.Ranges.{never, by_test}
 use Rattle.head.specs.declared.Stop.TheVariants.{Digest}
 use Rattle.blake2s.specs.Stream.{update_context, finish_output}
 use Rattle.protocol.specs.Commands.{is_last}
-use Rattle.diagnosis.specs.Monitor.{nowhere, load_heard, block_heard, frame_heard, carried_in, by_verdict}
 use Rattle.reasons.specs.Meaning.{Holds}
 use Rattle.reasons.proofs.Monitors.{reason_in}
 

@@ -36,11 +36,8 @@ use Rattle.session.proofs.Frames.{all_append, good_some}
 use Rattle.session.proofs.Gathering.{holding}
 use Rattle.session.proofs.Shapes.{one_shape, no_load, carried_snoc, carries_127, carried_length, load_size}
 use Rattle.session.proofs.Acting.{grows, at, loaded_with, Doing, is_waiting, is_loading, more, program_in, all_there, held_frame, held_body}
-use Rattle.diagnosis.specs.Monitor.{fresh_hash, onward, load_heard, measured, block_heard, frame_heard, by_report, is_open, heard_byte, nowhere}
-use Rattle.diagnosis.specs.declared.Verdict.{Verdict}
-use Rattle.diagnosis.specs.declared.Verdict.TheVariants.{Open, Stopped, Started}
+use Rattle.diagnosis.specs.Monitor.{Verdict, Open, Stopped, Started, Monitor, fresh_hash, onward, load_heard, measured, block_heard, frame_heard, by_report, is_open, heard_byte, nowhere}
 use Rattle.diagnosis.specs.declared.Position.{Position}
-use Rattle.diagnosis.specs.declared.Monitor.{Monitor}
 use Rattle.reasons.specs.Meaning.{Waits, Misses, TakenWaiting, NotAllowed, OtherLength}
 use Rattle.reasons.specs.Theorems.{Stands}
 use Rattle.reasons.proofs.Places.{Reads, begun}

@@ -19,11 +19,8 @@ use Rattle.head.specs.declared.Stop.TheVariants.{UnknownType}
 use Rattle.head.specs.declared.Progress.{Progress}
 use Rattle.session.specs.Reading.{type_of}
 use Rattle.diagnosis.specs.Reasons.{Reason, stopped}
-use Rattle.diagnosis.specs.Monitor.{closed, opened, by_source, begun, is_open, heard_byte, heard, by_phase, by_verdict}
+use Rattle.diagnosis.specs.Monitor.{Verdict, Open, Refused, Stopped, Started, Monitor, closed, opened, by_source, begun, is_open, heard_byte, heard, by_phase, by_verdict}
 use Rattle.diagnosis.specs.declared.Refusal.TheVariants.{RecordLength, RamSize, FromFlash}
-use Rattle.diagnosis.specs.declared.Verdict.{Verdict}
-use Rattle.diagnosis.specs.declared.Verdict.TheVariants.{Open, Refused, Stopped, Started}
-use Rattle.diagnosis.specs.declared.Monitor.{Monitor}
 use Rattle.reasons.specs.Meaning.{LengthsOk, Asks}
 use Rattle.reasons.specs.Theorems.{goes_on}
 use Rattle.diagnosis.proofs.Walk.{byte_near, heard_ended}

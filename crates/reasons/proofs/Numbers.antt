@@ -6,45 +6,48 @@ use mathlib.Core.Bool.{true, cond}
 use mathlib.Core.List.{List}
 use native.Mathlib.Omega.{arith}
 use lib.Dec.{eqb}
+use Rattle.std.specs.Prelude.{Result, Ok, Err}
 use Rattle.head.specs.declared.Stop.TheVariants.{UnknownType, HeaderBit, Command, BodyLength, Digest, ProgramSize}
 use Rattle.diagnosis.specs.Reasons.{Reason, reason_of, number_of}
 use Rattle.diagnosis.specs.Calls.{is_refused, missing_in}
+use Rattle.diagnosis.specs.declared.Refusal.{Refusal}
 use Rattle.diagnosis.specs.declared.Refusal.TheVariants.{RecordLength, RamSize, FromFlash}
 use Rattle.diagnosis.specs.declared.Finding.{Finding}
-use Rattle.diagnosis.specs.declared.Finding.TheVariants.{Refused, Stopped, Unfinished, Waiting, Missing, Started}
+use Rattle.diagnosis.specs.declared.Finding.TheVariants.{Stopped, Unfinished, Waiting, Missing, Started}
 use Rattle.reasons.specs.Meaning.{Holds, record_length, ram_size, from_flash, unknown_type, bad_header, bad_command, bad_length, bad_digest, is_unfinished, is_waiting, is_missing, has_started}
 
-abbrev finding : ℕ → ℕ → Finding
+abbrev finding : ℕ → ℕ → Result Finding Refusal
 finding k n =
-    cond (eqb k 6) (Refused RecordLength)
-    (cond (eqb k 7) (Refused RamSize)
-    (cond (eqb k 48) (Refused FromFlash)
-    (cond (eqb k 20) (Stopped UnknownType)
-    (cond (eqb k 22) (Stopped HeaderBit)
-    (cond (eqb k 23) (Stopped Command)
-    (cond (eqb k 24) (Stopped BodyLength)
-    (cond (eqb k 25) (Stopped Digest)
-    (cond (eqb k 26) (Stopped ProgramSize)
-    (cond (eqb k 65) Started
-    (cond (eqb k 66) Unfinished
-    (cond (eqb k 67) Waiting (Missing n))))))))))))
+    cond (eqb k 6) (Err RecordLength)
+    (cond (eqb k 7) (Err RamSize)
+    (cond (eqb k 48) (Err FromFlash)
+    (cond (eqb k 20) (Ok (Stopped UnknownType))
+    (cond (eqb k 22) (Ok (Stopped HeaderBit))
+    (cond (eqb k 23) (Ok (Stopped Command))
+    (cond (eqb k 24) (Ok (Stopped BodyLength))
+    (cond (eqb k 25) (Ok (Stopped Digest))
+    (cond (eqb k 26) (Ok (Stopped ProgramSize))
+    (cond (eqb k 65) (Ok Started)
+    (cond (eqb k 66) (Ok Unfinished)
+    (cond (eqb k 67) (Ok Waiting) (Ok (Missing n)))))))))))))
 
-finding_of : (f : Finding) (i : ℕ) → finding (number_of (reason_of f i)) (missing_in (reason_of f i)) ≡ f
-finding_of (Refused RecordLength) i = refl
-finding_of (Refused RamSize) i = refl
-finding_of (Refused FromFlash) i = refl
-finding_of (Stopped UnknownType) i = refl
-finding_of (Stopped HeaderBit) i = refl
-finding_of (Stopped Command) i = refl
-finding_of (Stopped BodyLength) i = refl
-finding_of (Stopped Digest) i = refl
-finding_of (Stopped ProgramSize) i = refl
-finding_of Unfinished i = refl
-finding_of Waiting i = refl
-finding_of (Missing n) i = refl
-finding_of Started i = refl
+finding_of : (f : Result Finding Refusal) (i : ℕ) → finding (number_of (reason_of f i)) (missing_in (reason_of f i)) ≡ f
+finding_of (Err RecordLength) i = refl
+finding_of (Err RamSize) i = refl
+finding_of (Err FromFlash) i = refl
+finding_of (Ok (Stopped UnknownType)) i = refl
+finding_of (Ok (Stopped HeaderBit)) i = refl
+finding_of (Ok (Stopped Command)) i = refl
+finding_of (Ok (Stopped BodyLength)) i = refl
+finding_of (Ok (Stopped Digest)) i = refl
+finding_of (Ok (Stopped ProgramSize)) i = refl
+finding_of (Ok Unfinished) i = refl
+finding_of (Ok Waiting) i = refl
+finding_of (Ok (Missing n)) i = refl
+finding_of (Ok Started) i = refl
 
-pub answers : (f g : Finding) (i : ℕ) → number_of (reason_of f i) ≡ number_of (reason_of g i) → missing_in (reason_of f i) ≡ missing_in (reason_of g i) → f ≡ g
+pub answers : (f g : Result Finding Refusal) (i : ℕ) → number_of (reason_of f i) ≡ number_of (reason_of g i)
+    → missing_in (reason_of f i) ≡ missing_in (reason_of g i) → f ≡ g
 answers f g i e n = sym (finding_of f i) ∙ ap₂ finding e n ∙ finding_of g i
 
 -- a refusal's number is that of no other reason

@@ -26,13 +26,10 @@ use Rattle.protocol.specs.Commands.{blocks_for}
 use Rattle.head.proofs.Ranges.{never}
 use Rattle.head.specs.declared.State.{State}
 use Rattle.diagnosis.specs.Reasons.{Reason, refused, stopped, unfinished, waiting, missing, started}
-use Rattle.diagnosis.specs.Monitor.{closed, opened, heard, has_room, heard_part, explained, diagnosis, is_open}
+use Rattle.diagnosis.specs.Monitor.{Monitor, Verdict, Refused, Stopped, closed, opened, heard, has_room, heard_part, explained, diagnosis, is_open}
 use Rattle.diagnosis.specs.Monitor as monitor
 use Rattle.diagnosis.specs.declared.Position.{Position}
-use Rattle.diagnosis.specs.declared.Monitor.{Monitor}
 use Rattle.diagnosis.proofs.Walk.{begun_nowhere}
-use Rattle.diagnosis.specs.declared.Verdict.{Verdict}
-use Rattle.diagnosis.specs.declared.Verdict.TheVariants.{Refused, Stopped}
 use Rattle.diagnosis.specs.declared.Refusal.TheVariants.{RecordLength, RamSize, FromFlash}
 use Rattle.head.specs.declared.Stop.TheVariants.{UnknownType}
 use Rattle.reasons.specs.Meaning.{LengthsOk, FrameAt, BadHeader, Holds, record_length, ram_size, from_flash, unknown_type, bad_header, bad_command, bad_length, bad_digest, is_unfinished, is_waiting, is_missing, has_started}

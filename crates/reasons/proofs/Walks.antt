@@ -37,11 +37,8 @@ use Rattle.session.proofs.Calls.{Live, Full, AfterGather, unfinished, complete, 
 use Rattle.session.proofs.Entries.{among_first, number_of, call_taken, nothing_started, nothing_stopped}
 use Rattle.session.proofs.Begins.{Runs, number_is, over_after, full_after, next_runs}
 use Rattle.diagnosis.specs.Reasons.{Reason, stopped, started}
-use Rattle.diagnosis.specs.Monitor.{open_reason, by_verdict, frame_heard, position_after, moved, ruled, by_report, is_open, heard_byte, heard}
-use Rattle.diagnosis.specs.declared.Verdict.{Verdict}
-use Rattle.diagnosis.specs.declared.Verdict.TheVariants.{Open, Stopped}
+use Rattle.diagnosis.specs.Monitor.{Verdict, Open, Stopped, Monitor, open_reason, by_verdict, frame_heard, position_after, moved, ruled, by_report, is_open, heard_byte, heard}
 use Rattle.diagnosis.specs.declared.Position.{Position}
-use Rattle.diagnosis.specs.declared.Monitor.{Monitor}
 use Rattle.reasons.specs.Meaning.{Waits, Misses, Whole, FrameAt, Asks, Holds}
 use Rattle.reasons.specs.Meaning as meaning
 use Rattle.reasons.specs.Theorems.{Stands, is_measured, Fits, Next, Hears, end_at, ends_of, end_in}

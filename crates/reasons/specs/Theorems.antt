@@ -1,6 +1,6 @@
 -- What is proved of a diagnosis (change request 13): its reason is true of the bytes and the only one that is, and it is what the head did. The proof is
 -- `diagnoses` in proofs/Proved.antt.
-use Rattle.std.specs.Prelude.{ℕ, ◌+◌, ◌^◌, ◌<◌, ◌≤◌, ◌≡◌, ◌↔◌, ◌⊎◌, Bool, true, false, eqb, length, get_or, take}
+use Rattle.std.specs.Prelude.{ℕ, ◌+◌, ◌^◌, ◌<◌, ◌≤◌, ◌≡◌, ◌↔◌, ◌⊎◌, Bool, true, false, eqb, length, get_or, take, Result}
 use mathlib.Core.List.{List, [], ◌∷◌, ◌++◌, flatten}
 use Rattle.endian.specs.Lists.{zeros, All, Words}
 use Rattle.framing.specs.Header.{header_at, body_len}
@@ -12,9 +12,9 @@ use Rattle.session.specs.Boot.{Started}
 use Rattle.diagnosis.specs.Reasons.{Reason, refused, stopped, unfinished, waiting, missing, started, reason_of, number_of}
 use Rattle.diagnosis.specs.Calls.{missing_in, diagnose_call}
 use Rattle.diagnosis.specs.declared.Finding.{Finding}
+use Rattle.diagnosis.specs.declared.Refusal.{Refusal}
 use Rattle.diagnosis.specs.Monitor as monitor
-use Rattle.diagnosis.specs.Monitor.{heard, heard_part, diagnosis}
-use Rattle.diagnosis.specs.declared.Monitor.{Monitor}
+use Rattle.diagnosis.specs.Monitor.{Monitor, heard, heard_part, diagnosis}
 use Rattle.reasons.specs.Meaning.{Holds}
 use Rattle.reasons.specs.Examples.{Told, examples}
 
@@ -148,7 +148,7 @@ pub record Diagnoses : Type 0 where
   pub room : (rec : List ℕ) (m : ℕ) (xs ys : List ℕ) → length xs + length ys < 2 ^ 64
       → heard_part (heard (monitor.begun rec m) xs) ys ≡ record { taken = true; monitor = heard (monitor.begun rec m) (xs ++ ys) }
   -- what a C program is given tells the findings apart, and a call that answers the number of a refusal leaves what it was lent
-  pub answers : (f g : Finding) (i : ℕ) → number_of (reason_of f i) ≡ number_of (reason_of g i) → missing_in (reason_of f i) ≡ missing_in (reason_of g i) → f ≡ g
+  pub answers : (f g : Result Finding Refusal) (i : ℕ) → number_of (reason_of f i) ≡ number_of (reason_of g i) → missing_in (reason_of f i) ≡ missing_in (reason_of g i) → f ≡ g
   pub kept : (rec : List ℕ) (m : ℕ) (bytes counts digest : List ℕ) → let c = diagnose_call rec m bytes counts digest in
       (c.answer ≡ 6) ⊎ ((c.answer ≡ 7) ⊎ (c.answer ≡ 48)) → (c.counts ≡ counts) × (c.digest ≡ digest)
   -- each reason comes up
