@@ -35,7 +35,7 @@ impl Text {
         }
     }
 
-    // A text of what is shown, for one a `format_args!`.
+    // A text of what is shown: one part, a tuple of parts, or `format_args!` of numbers and texts.
     pub fn of<S: Show + Drop>(s: S) -> Text
         ensures { result ≡ text_of (S.words s) }
     {
@@ -44,7 +44,7 @@ impl Text {
         t
     }
 
-    // What `write!` calls. It cannot fail.
+    // What `write!` calls; its holes are numbers and texts. It cannot fail.
     pub fn write_fmt<S: Show + Drop>(&mut self, s: S)
         ensures { self.new ≡ added self.old (S.words s) }
     {
@@ -52,7 +52,7 @@ impl Text {
     }
 
     // A byte more.
-    fn push(&mut self, b: u8)
+    pub fn push(&mut self, b: u8)
         ensures { self.new ≡ added self.old (b ∷ []) }
     {
         if self.len < 512 {
@@ -87,11 +87,12 @@ impl<S: Show> Show for &S {
     }
 }
 
+// One impl for each type of number: one over all that go into u64 would overlap with those of texts and tuples.
 impl Show for u8 {
     ghost words = { decimal_of };
 
     fn show(&self, t: &mut Text) {
-        put_digits(t, *self as u64)
+        (*self as u64).show(t)
     }
 }
 
@@ -99,7 +100,7 @@ impl Show for u32 {
     ghost words = { decimal_of };
 
     fn show(&self, t: &mut Text) {
-        put_digits(t, *self as u64)
+        (*self as u64).show(t)
     }
 }
 
@@ -115,7 +116,7 @@ impl Show for usize {
     ghost words = { decimal_of };
 
     fn show(&self, t: &mut Text) {
-        put_digits(t, *self as u64)
+        (*self as u64).show(t)
     }
 }
 
@@ -166,7 +167,8 @@ impl Show for Repeated {
     }
 }
 
-// ---- what `format_args!` gives: a tuple of its texts and of references to its values
+// ---- what `format_args!` gives: a tuple of its texts and of references to its values. No type parameter stands for a tuple's length, so each
+// length is written out, as the library's own Pieces does.
 
 impl<T: Show> Show for Format<T> {
     ghost words = { λ x. T.words (format_pieces x) };
@@ -267,52 +269,4 @@ pub fn write<W: Write>(to: &mut W, t: Text) -> io::Result<()>
         Some(bytes) => to.write_all(bytes),
         None => Err(io::Error::from(io::ErrorKind::InvalidInput)),
     }
-}
-
-// ---- the old calls, until no crate uses them
-
-pub fn empty() -> Text
-    ensures { result ≡ text_of [] }
-{
-    Text::new()
-}
-
-pub fn put(t: Text, b: u8) -> Text
-    ensures { result ≡ added t (b ∷ []) }
-{
-    let mut next = t;
-    next.push(b);
-    next
-}
-
-pub fn put_all(t: Text, s: &[u8]) -> Text
-    ensures { result ≡ added t s.now }
-{
-    let mut next = t;
-    next.push_all(s);
-    next
-}
-
-pub fn put_repeated(t: Text, b: u8, n: usize) -> Text
-    ensures { result ≡ added t (replicate n b) }
-{
-    let mut next = t;
-    Repeated(b, n).show(&mut next);
-    next
-}
-
-pub fn put_hex(t: Text, s: &[u8]) -> Text
-    ensures { result ≡ added t (hex_of s.now) }
-{
-    let mut next = t;
-    Hex(s).show(&mut next);
-    next
-}
-
-pub fn put_decimal(t: Text, n: u64) -> Text
-    ensures { result ≡ added t (decimal_of n) }
-{
-    let mut next = t;
-    n.show(&mut next);
-    next
 }
