@@ -68,6 +68,7 @@ fn read_words(b: &[u8]) -> [u32; 16]
 
 // Compresses the first n blocks of d, each with the flag last; the first has the counter t. compress is called here and nowhere else, so
 // that LLVM inlines it into the loop: docs/PROVING.md, "Why the hash is fast".
+// Kept by place: over `d.chunks_exact(64).take(n).enumerate()` it was tried, and the loop's proof did not close.
 fn compress_blocks(h: &mut [u32; 8], t: u64, d: &[u8], n: usize, last: bool)
     requires { (64 * n ≤ length d.now) × (t + 64 * n < 2 ^ 63) }
     ensures { h.new ≡ compressed_blocks h.old t d.now n last }
