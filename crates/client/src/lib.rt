@@ -11,6 +11,7 @@ ghost use Rattle.client.specs.Frames.{refusal, secret_in, making_of, making};
 ghost use Rattle.client.specs.Replies.{expected_reply, has_digest, differing, taking_of, taking};
 
 use framing::Status;
+use replies::Kind;
 
 // Why a call is refused. A refused call changes nothing.
 #[derive(Clone, Copy, Debug, PartialEq, Eq)]
@@ -123,10 +124,9 @@ pub fn read_reply(len: usize, id: u8, k: u32, reply: &[u8]) -> Result<Taken, Ref
     ensures digest { IfOk result (λ t. is_some t.digest ≡ has_digest (expected_reply len k)) }
 {
     check(len, id, k)?;
-    match replies::compare(replies::reply_to(len as u32, k), id, reply) {
-        Ok(taken) => Ok(taken),
-        Err(_) => Err(Refusal::UnexpectedReply),
-    }
+    Kind::of(len as u32, k)
+        .compare(id, reply)
+        .map_err(|_| Refusal::UnexpectedReply)
 }
 
 // In what the reply to command frame k of a program of this length differs from the expected one, if it does. None where the program has no
@@ -138,5 +138,5 @@ pub fn reply_difference(len: usize, id: u8, k: u32, reply: &[u8]) -> Option<Diff
     if check(len, id, k).is_err() {
         return None;
     }
-    replies::compare(replies::reply_to(len as u32, k), id, reply).err()
+    Kind::of(len as u32, k).compare(id, reply).err()
 }

@@ -14,21 +14,21 @@ pub enum Kind {
     Last,
 }
 
-// The reply to frame k of a program of this size.
-pub fn reply_to(size: u32, k: u32) -> Kind
-    ensures { expected_of result ≡ expected_reply size k }
-{
-    if k == 0 {
-        return Kind::Load;
-    }
-    if protocol::is_last(size, k - 1) {
-        Kind::Last
-    } else {
-        Kind::Block
-    }
-}
-
 impl Kind {
+    // The reply to frame k of a program of this size.
+    pub fn of(size: u32, k: u32) -> Kind
+        ensures { expected_of result ≡ expected_reply size k }
+    {
+        if k == 0 {
+            return Kind::Load;
+        }
+        if protocol::is_last(size, k - 1) {
+            Kind::Last
+        } else {
+            Kind::Block
+        }
+    }
+
     fn code(self) -> u8
         ensures { result ≡ (expected_of self).code }
     {
@@ -70,38 +70,38 @@ impl Kind {
             Kind::Last => Some(endian::part(reply, 3)),
         }
     }
-}
 
-// Reads a reply, or says in what it differs from the one that is expected.
-#[tactic(auto, using(crate::proofs::Expected::no_header), unfolding(crate::specs::Replies::difference_in))]
-pub fn compare(x: Kind, id: u8, reply: &[u8]) -> Result<Taken, Difference>
-    ensures difference { difference_of result ≡ difference_in (expected_of x) id reply.now }
-    ensures taken { IfOk result (λ t. said t ≡ said_by (expected_of x) reply.now) }
-    ensures digest { IfOk result (λ t. is_some t.digest ≡ has_digest (expected_of x)) }
-{
-    if reply.is_empty() {
-        return Err(Difference::Header);
+    // Reads a reply, or says in what it differs from the one that is expected.
+    #[tactic(auto, using(crate::proofs::Expected::no_header), unfolding(crate::specs::Replies::difference_in))]
+    pub fn compare(self, id: u8, reply: &[u8]) -> Result<Taken, Difference>
+        ensures difference { difference_of result ≡ difference_in (expected_of self) id reply.now }
+        ensures taken { IfOk result (λ t. said t ≡ said_by (expected_of self) reply.now) }
+        ensures digest { IfOk result (λ t. is_some t.digest ≡ has_digest (expected_of self)) }
+    {
+        if reply.is_empty() {
+            return Err(Difference::Header);
+        }
+        let Some(h) = framing::read_reply_header(reply[0]) else {
+            return Err(Difference::Header);
+        };
+        if h.id != id || h.endpoint != 2 || h.len != self.len() {
+            return Err(Difference::Header);
+        }
+        if reply.len() != 1 + self.len() as usize {
+            return Err(Difference::Length);
+        }
+        if reply[1] != self.code() {
+            return Err(Difference::Code);
+        }
+        if reply[2] != u8::from(h.status) {
+            return Err(Difference::Status);
+        }
+        if !reply[3 + self.digest_len()..].iter().all(|&b| b == 0) {
+            return Err(Difference::Filler);
+        }
+        Ok(Taken {
+            status: h.status,
+            digest: self.digest_in(reply),
+        })
     }
-    let Some(h) = framing::read_reply_header(reply[0]) else {
-        return Err(Difference::Header);
-    };
-    if h.id != id || h.endpoint != 2 || h.len != x.len() {
-        return Err(Difference::Header);
-    }
-    if reply.len() != 1 + x.len() as usize {
-        return Err(Difference::Length);
-    }
-    if reply[1] != x.code() {
-        return Err(Difference::Code);
-    }
-    if reply[2] != u8::from(h.status) {
-        return Err(Difference::Status);
-    }
-    if !reply[3 + x.digest_len()..].iter().all(|&b| b == 0) {
-        return Err(Difference::Filler);
-    }
-    Ok(Taken {
-        status: h.status,
-        digest: x.digest_in(reply),
-    })
 }

@@ -11,7 +11,7 @@ use Rattle.client.specs.Replies.{expected_of, difference_in}
 use Rattle.client.specs.declared.Difference.TheVariants.{Filler}
 use Rattle.client.proofs.Expected.{last_test}
 use borrow.Author.Rules.{rules}
-use Rattle.client.proofs.replies.compare.Goals as goal
+use Rattle.client.proofs.replies.Kind.compare.Goals as goal
 
 pub returns-then-not-all-clause-difference : goal.returns-then-not-all-clause-difference
 returns-then-not-all-clause-difference c =
@@ -19,8 +19,8 @@ returns-then-not-all-clause-difference c =
     let n = c.digest_len.result in
     let r = a.reply.now in
     let z : (c.all.result ≡ true) ↔ All (λ b. b ≡ 0) (take (length r - (3 + n)) (drop (3 + n) r)) = search rules in
-    let l : difference_in (expected_of a.x) a.id r ≡ cond c.all.result None (Some Filler) =
-    last_test (expected_of a.x) a.id r c.in-Some.h n c.all.result
+    let l : difference_in (expected_of a.self) a.id r ≡ cond c.all.result None (Some Filler) =
+    last_test (expected_of a.self) a.id r c.in-Some.h n c.all.result
     (ap fields_of (sym c.in-Some.is) ∙ c.read_reply_header.ensures) c.if-h-id.false c.if-h-ne2.false (c.if-h-len.false ∙ c.len.ensures)
     (c.if-reply-len.false ∙ ap (λ (n : ℕ). 1 + n) c.len-2.ensures) (c.if-reply-code.false ∙ c.code.ensures) (c.if-reply-from.false ∙ c.from.ensures)
     c.digest_len.ensures z in
@@ -32,8 +32,8 @@ returns-clause-difference c =
     let n = c.digest_len.result in
     let r = a.reply.now in
     let z : (c.all.result ≡ true) ↔ All (λ b. b ≡ 0) (take (length r - (3 + n)) (drop (3 + n) r)) = search rules in
-    let l : difference_in (expected_of a.x) a.id r ≡ cond c.all.result None (Some Filler) =
-    last_test (expected_of a.x) a.id r c.in-Some.h n c.all.result
+    let l : difference_in (expected_of a.self) a.id r ≡ cond c.all.result None (Some Filler) =
+    last_test (expected_of a.self) a.id r c.in-Some.h n c.all.result
     (ap fields_of (sym c.in-Some.is) ∙ c.read_reply_header.ensures) c.if-h-id.false c.if-h-ne2.false (c.if-h-len.false ∙ c.len.ensures)
     (c.if-reply-len.false ∙ ap (λ (n : ℕ). 1 + n) c.len-2.ensures) (c.if-reply-code.false ∙ c.code.ensures) (c.if-reply-from.false ∙ c.from.ensures)
     c.digest_len.ensures z in
