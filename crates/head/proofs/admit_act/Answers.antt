@@ -1,5 +1,4 @@
 -- Each return has the number that the tests before it leave.
-use mathlib.Core.Path.{◌≡◌, sym, ◌∙◌}
 use borrow.Author.Tests.{eq-eqb, ne_eqb, lt-ltb, le-ltb}
 use Rattle.head.specs.Act.{act_refusal}
 use Rattle.head.proofs.admit_act.Goals as goal

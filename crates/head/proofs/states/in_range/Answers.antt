@@ -1,5 +1,5 @@
 -- Each test is one part of the range.
-use mathlib.Core.Path.{◌≡◌, sym, ◌∙◌}
+use mathlib.Core.Path.{sym, ◌∙◌}
 use Rattle.endian.proofs.Cases.{impossible}
 use Rattle.head.specs.State.{in_range}
 use Rattle.head.proofs.states.in_range.Goals.{then-length_ok, else-length_ok}

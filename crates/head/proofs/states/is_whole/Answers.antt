@@ -1,6 +1,5 @@
 -- The header decides; where it is good, endpoint and count are tested.
-use Prim.Native.Nat.{◌≤◌}
-use mathlib.Core.Path.{◌≡◌, sym, ◌∙◌}
+use mathlib.Core.Path.{sym, ◌∙◌}
 use native.Mathlib.Omega.{arith}
 use Rattle.endian.proofs.Cases.{impossible}
 use Rattle.framing.proofs.Headers.{good_at, bad_at, body_small}
