@@ -20,7 +20,7 @@ fn find_spare(spares: &[[u8; 512]], place: usize, blocks: usize) -> Option<&[u8;
         .find(|&spare| spool_block::is_good(spare, place, blocks))
 }
 
-// Mends a block, and says what became of it.
+// Mends a block, and says what became of it. A slice of 512, since as_chunks_mut says nothing of what a slice then holds.
 fn mend(block: &mut [u8], place: usize, blocks: usize, spares: &[[u8; 512]]) -> Fate
     requires { length block.old ≡ 512 }
     ensures { let m = mended blocks place spares.now block.old in (fate_number result ≡ m.entry) × (block.new ≡ m.block) }
@@ -41,6 +41,7 @@ pub fn mend_all(spool: &mut [u8], spares: &[[u8; 512]], report: &mut [u8])
     ensures { let at : ℕ → Mended = λ i. mended (blocks_in spool.old) i spares.now (block_at spool.old i) in let n = blocks_in spool.old in (spool.new ≡ flatten (each n (λ i. (at i).block))) × (report.new ≡ put_in report.old (each n (λ i. (at i).entry))) }
 {
     let blocks = spool.len() / 512;
+    // By places: of a slice that chunks_exact_mut has lent a proof knows the length alone.
     for place in 0..blocks {
         let from = 512 * place;
         let fate = mend(&mut spool[from..from + 512], place, blocks, spares);
