@@ -1,21 +1,43 @@
--- A turn that is not the last receives a byte, and a session has received under 2^64 (`fewer`).
-use Rattle.std.proofs.Common.{rules, ℕ, ◌+◌, ◌-◌, ◌^◌, ◌<◌, Bool, true, false, cond, List, Option, None, Some, arith}
-use Rattle.printer.specs.Output.{is_over, after_byte}
-use Rattle.printer.specs.Turns.{turned, waited, is_full, turn_of}
+-- A session has received under 2^64 bytes (`within`), and a turn that is not the last receives one more (`fewer`).
+use Rattle.std.proofs.Common.{◌≡◌, refl, subst, ℕ, ◌+◌, ◌-◌, ◌^◌, ◌<◌, Bool, true, false, cond, List, Option, None, Some, ltb, arith}
+use Rattle.text.specs.Text.{text_of}
+use Rattle.printer.specs.Lines.{error_line}
+use borrow.Author.Tests.{eqb-false}
+use Rattle.printer.specs.Output.{is_over, after_begin, after_byte}
+use Rattle.printer.specs.Turns.{opening, begin_turn, turned, waited, is_full, turn_of}
 use Rattle.printer.specs.declared.turns.Session.{Session}
 use Rattle.printer.specs.declared.turns.Next.{Next}
 use Rattle.printer.specs.declared.turns.Next.TheVariants.{Byte, End}
 use Rattle.printer.specs.declared.turns.Turn.{Turn}
-use Rattle.headlog.proofs.main.Invariants.{left}
+use Rattle.headlog.proofs.main.Invariants.{left, within}
 use Rattle.headlog.proofs.main.Goals as goal
 
-either : (b : Bool) (t u : Turn) (m : ℕ) → left t.session < m → left u.session < m → left (cond b t u).session < m
-either true t u m f g = f
-either false t u m f g = g
+-- what holds of no session, and of one that goes on, holds of a turn
+going : (P : Option Session → Type 0) (b : Bool) (s : Session) → P None → P (Some s) → P (cond b None (Some s))
+going P true s f g = f
+going P false s f g = g
 
-gone : (b : Bool) (s : Session) (m : ℕ) → 0 < m → left (Some s) < m → left (cond b None (Some s)) < m
-gone true s m f g = f
-gone false s m f g = g
+either : (P : Option Session → Type 0) (b : Bool) (t u : Turn) → P t.session → (b ≡ false → P u.session) → P (cond b t u).session
+either P true t u f g = f
+either P false t u f g = g refl
+
+begun : (front ram : List ℕ) → within (begin_turn front ram).session
+begun front ram =
+    let o = after_begin front ram in
+    going within (is_over o.report) (record { state = o.state; words = o.uds; received = 0 }) tt (omega arith)
+
+opened : (front : List ℕ) (got : ℕ) (ram : List ℕ) → within (opening front got ram).session
+unfolding opening
+opened front got ram =
+    either within (ltb got 296) (record { text = text_of (error_line 1); session = None }) (begin_turn front ram) tt (λ e. begun front ram)
+
+more : (s : Session) (n : Next) (ram : List ℕ) → s.received < 2 ^ 64 → within (turned s n ram).session
+more s End ram h = tt
+more s (Byte b) ram h =
+    let o = after_byte s.state s.words ram b in
+    either within (is_full s) (waited s) (turn_of (s.received + 1) o) tt
+    (λ e. going within (is_over o.report) (record { state = o.state; words = o.uds; received = s.received + 1 }) tt
+    (omega (arith, eqb-false s.received (2 ^ 64 - 1) e)))
 
 fewer : (s : Session) (n : Next) (ram : List ℕ) → s.received < 2 ^ 64 → left (turned s n ram).session < 2 ^ 64 - s.received
 fewer s End ram h = omega arith
@@ -23,12 +45,23 @@ fewer s (Byte b) ram h =
     let f : 0 < 2 ^ 64 - s.received = omega arith in
     let g : 2 ^ 64 - (s.received + 1) < 2 ^ 64 - s.received = omega arith in
     let o = after_byte s.state s.words ram b in
-    either (is_full s) (waited s) (turn_of (s.received + 1) o) (2 ^ 64 - s.received) f
-    (gone (is_over o.report) (record { state = o.state; words = o.uds; received = s.received + 1 }) (2 ^ 64 - s.received) f g)
+    either (λ x. left x < 2 ^ 64 - s.received) (is_full s) (waited s) (turn_of (s.received + 1) o) f
+    (λ e. going (λ x. left x < 2 ^ 64 - s.received) (is_over o.report) (record { state = o.state; words = o.uds; received = s.received + 1 }) f g)
+
+-- the bound, where the session is known to be there
+bound : (x : Option Session) (s : Session) → x ≡ Some s → within x → s.received < 2 ^ 64
+bound x s e h = subst within e h
+
+pub loop-t-init : goal.loop-t-init
+loop-t-init c = rw c.open-t.ensures.turn (opened _ _ _)
+
+pub loop-t-preserved : goal.loop-t-preserved
+loop-t-preserved c =
+    let s = c.in-Some.session in
+    rw c.advance-t.ensures.turn (more s c.read.result c.loop-t.ram (bound c.loop-t.t.session s c.in-Some.is c.loop-t.invariant))
 
 pub loop-t-smaller : goal.loop-t-smaller
 loop-t-smaller c =
     let s = c.in-Some.session in
-    let w = c.well_formed in
-    let h : s.received < 2 ^ 64 = w in
+    let h = bound c.loop-t.t.session s c.in-Some.is c.loop-t.invariant in
     rw (c.advance-t.ensures.turn, c.in-Some.is) (fewer s c.read.result c.loop-t.ram h)
