@@ -17,14 +17,6 @@ unfolding added
 parts t [] b = refl
 parts t (x ∷ a) b = parts (with_byte t x) a b
 
-pub nothing : (t : Text) → added t [] ≡ t
-unfolding added
-nothing t = refl
-
--- one part, then another
-pub then : (t s r : Text) (a b : List ℕ) → s ≡ added t a → r ≡ added s b → r ≡ added t (a ++ b)
-then t s r a b e f = f ∙ ap (λ (x : Text). added x b) e ∙ parts t a b
-
 -- a text, and a part behind it
 pub behind : (a b : List ℕ) → added (text_of a) b ≡ text_of (a ++ b)
 unfolding text_of
