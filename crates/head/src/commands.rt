@@ -1,7 +1,7 @@
 // What a whole frame asks for: document 01, the table of commands.
 ghost use Rattle.std.specs.Prelude.{◌≡◌, ◌<◌};
 ghost use Rattle.protocol.specs.Commands.{longest};
-ghost use Rattle.head.specs.Act.{sized, request_in, request_of, loaded, next_block};
+ghost use Rattle.head.specs.Act.{sized, request_waiting, request_loading, request_in, request_of, loaded, next_block};
 ghost use Rattle.head.specs.Steps.{request, request_for, frame_of};
 
 use super::{Action, Incoming, Phase, Progress, State, Stop};
@@ -17,16 +17,39 @@ fn sized(wanted: u8, len: u8, action: Action) -> Result<Action, Stop>
     Ok(action)
 }
 
-// A command, by its number and its body's length.
+// A command while waiting, by its number and its body's length. Document 01 names this form: a match over the command byte in each state,
+// unknown numbers in ranges.
+fn action_waiting(command: u8, len: u8) -> Result<Action, Stop>
+    ensures { request_for result ≡ request_waiting command len }
+{
+    match command {
+        0x01 => sized(1, len, Action::AnswerName),
+        0x08 => sized(1, len, Action::AnswerUdi),
+        0x03 => sized(128, len, Action::TakeLoad),
+        0x05 => Err(Stop::Command),
+        0 | 2 | 4 | 6..=7 | 9..=255 => Err(Stop::Command),
+    }
+}
+
+// A command while loading.
+fn action_loading(command: u8, len: u8) -> Result<Action, Stop>
+    ensures { request_for result ≡ request_loading command len }
+{
+    match command {
+        0x05 => sized(128, len, Action::TakeBlock),
+        0x01 | 0x03 | 0x08 => Err(Stop::Command),
+        0 | 2 | 4 | 6..=7 | 9..=255 => Err(Stop::Command),
+    }
+}
+
+// A command.
 fn action_in(phase: Phase, command: u8, len: u8) -> Result<Action, Stop>
     ensures { request_for result ≡ request_in phase command len }
 {
-    match (phase, command) {
-        (Phase::Waiting, 0x01) => sized(1, len, Action::AnswerName),
-        (Phase::Waiting, 0x08) => sized(1, len, Action::AnswerUdi),
-        (Phase::Waiting, 0x03) => sized(128, len, Action::TakeLoad),
-        (Phase::Loading, 0x05) => sized(128, len, Action::TakeBlock),
-        _ => Err(Stop::Command),
+    match phase {
+        Phase::Waiting => action_waiting(command, len),
+        Phase::Loading => action_loading(command, len),
+        Phase::Started | Phase::Stopped => Err(Stop::Command),
     }
 }
 

@@ -38,11 +38,15 @@ pub fn by_type(
     let Some(reset_type) = r.reset_type else {
         return super::starting::end(Stop::UnknownType, ram.len());
     };
-    let built_in = flash.built_in;
+    let Flash {
+        slot0,
+        slot1,
+        built_in,
+    } = flash;
     let c = head::config_of(r, udi, built_in, ram.len());
     match record::source(reset_type) {
-        Place::Slot0 => super::flash::boot(c, flash.slot0, ram, uds),
-        Place::Slot1 => super::flash::boot(c, flash.slot1, ram, uds),
+        Place::Slot0 => super::flash::boot(c, slot0.bytes, slot1.bytes, false, slot0.size, ram, uds),
+        Place::Slot1 => super::flash::boot(c, slot0.bytes, slot1.bytes, true, slot1.size, ram, uds),
         Place::Client => wait(c),
     }
 }

@@ -1,9 +1,8 @@
 // A program from flash: change request 3.
-ghost use Rattle.std.specs.Prelude.{◌≡◌, ◌≤◌, length};
+ghost use Rattle.std.specs.Prelude.{◌≡◌, cond, ◌≤◌, length, take};
 ghost use Rattle.protocol.specs.Commands.{longest};
 ghost use Rattle.head.specs.Answers.{result_in};
 ghost use Rattle.head.specs.Begin.{from_flash};
-ghost use Rattle.loader.specs.Steps.{slot_in};
 
 use head::{Config, Phase, Step, Stop};
 
@@ -22,18 +21,37 @@ pub struct Flash<'a> {
     pub built_in: [u8; 32],
 }
 
-// The program in a slot is measured, put in RAM and started, if it is allowed. Its front part is shorter than the size exactly where the slot
-// is.
-pub fn boot(c: Config, slot: Slot<'_>, ram: &mut [u8], uds: &mut [u32; 8]) -> Step
-    requires { length ram.old ≤ longest }
-    ensures { result_in result ram.new uds.new ≡ from_flash (slot_in slot.entry) c ram.old uds.old }
+// The first n bytes of slot 1 if `second`, otherwise of slot 0, or all if there are fewer: lent back without copying. Document 01 names this
+// form: it takes both lent slots, one lifetime on each.
+fn front<'a>(slot0: &'a [u8], slot1: &'a [u8], second: bool, n: usize) -> &'a [u8]
+    ensures { result.now ≡ take n (cond second slot1.now slot0.now) }
 {
-    let program = endian::first(slot.bytes, slot.size);
-    if !head::fits(slot.size, program.len(), ram.len()) {
+    if second {
+        return endian::first(slot1, n);
+    }
+    endian::first(slot0, n)
+}
+
+// The program of this size in slot 1 or in slot 0 is measured, put in RAM and started, if it is allowed. Its front part is shorter than the size
+// exactly where the slot is.
+pub fn boot<'a>(
+    c: Config,
+    slot0: &'a [u8],
+    slot1: &'a [u8],
+    second: bool,
+    size: usize,
+    ram: &mut [u8],
+    uds: &mut [u32; 8],
+) -> Step
+    requires { length ram.old ≤ longest }
+    ensures { result_in result ram.new uds.new ≡ from_flash (record { bytes = cond second slot1.now slot0.now; size = size }) c ram.old uds.old }
+{
+    let program = front(slot0, slot1, second, size);
+    if !head::fits(size, program.len(), ram.len()) {
         return super::starting::end(Stop::ProgramSize, c.ram_len);
     }
     let digest = blake2s::digest(program);
     endian::paste(ram, 0, program);
-    let p = head::of_size(Phase::Loading, slot.size as u32);
+    let p = head::of_size(Phase::Loading, size as u32);
     super::starting::start_or_stop(c, p, digest, uds)
 }

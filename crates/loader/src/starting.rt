@@ -23,7 +23,7 @@ fn start(c: Config, p: Progress, digest: [u8; 32], uds: &mut [u32; 8]) -> Step
     let measured_id = c.chained.then_some(c.measured_id);
     let uss = p.uss_used.then_some(p.uss);
     let cdi = cdi::derive(secret, measured_id, digest, uss);
-    *uds = [0; 8];
+    endian::clear(uds);
     Step {
         answer: Answer::Started(Start {
             address: 0x40000000,

@@ -10,15 +10,15 @@ use Rattle.loader.proofs.flash.boot.Goals as goal
 pub returns-then-not-fits : goal.returns-then-not-fits
 returns-then-not-fits c =
     let a = c.args in
-    does_not_fit _ a.slot.size a.c a.ram.now a.uds.now _ c.fits.result c.first-program.ensures c.fits.ensures c.if-not-fits.true c.end.result
+    does_not_fit _ a.size a.c a.ram.now a.uds.now _ c.fits.result c.front-program.ensures c.fits.ensures c.if-not-fits.true c.end.result
     c.end.ensures
 
 pub returns : goal.returns
 returns c =
     let a = c.args in
-    let fitted : (length c.first-program.result.now ≡ a.slot.size) × (a.slot.size ≤ length a.ram.now) =
-    program_fits _ a.slot.size a.c a.ram.now a.uds.now _ c.fits.result c.first-program.ensures c.fits.ensures c.if-not-fits.false in
-    let short : length c.first-program.result.now ≤ 4294967295 = omega arith in
-    booted _ a.slot.size a.c a.ram.now a.uds.now _ c.fits.result c.first-program.ensures c.fits.ensures c.if-not-fits.false
-    c.digest-digest.result c.of_size-p.result c.start_or_stop.result _ _ (c.digest-digest.ensures ∙ digest_zeros c.first-program.result.now short)
+    let fitted : (length c.front-program.result.now ≡ a.size) × (a.size ≤ length a.ram.now) =
+    program_fits _ a.size a.c a.ram.now a.uds.now _ c.fits.result c.front-program.ensures c.fits.ensures c.if-not-fits.false in
+    let short : length c.front-program.result.now ≤ 4294967295 = omega arith in
+    booted _ a.size a.c a.ram.now a.uds.now _ c.fits.result c.front-program.ensures c.fits.ensures c.if-not-fits.false
+    c.digest-digest.result c.of_size-p.result c.start_or_stop.result _ _ (c.digest-digest.ensures ∙ digest_zeros c.front-program.result.now short)
     c.paste.ensures c.of_size-p.ensures c.start_or_stop.ensures
