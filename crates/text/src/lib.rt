@@ -26,6 +26,7 @@ pub trait Show {
 }
 
 impl Text {
+    #[tactic(auto, unfolding(crate::specs::Text::text_of, crate::specs::Text::added))]
     pub fn new() -> Text
         ensures { result ≡ text_of [] }
     {
