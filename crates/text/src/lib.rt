@@ -37,6 +37,7 @@ impl Text {
     }
 
     // A text of what is shown: one part, a tuple of parts, or `format_args!` of numbers and texts.
+    #[tactic(auto, using(crate::proofs::Texts::from_empty))]
     pub fn of<S: Show + Drop>(s: S) -> Text
         ensures { result ≡ text_of (S.words s) }
     {
