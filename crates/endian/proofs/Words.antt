@@ -1,12 +1,12 @@
 -- The bytes of words: how many there are, their front, a turn of the loop that writes them, and the word that they give.
 use mathlib.Core.Path.{◌≡◌, refl, ap, ◌∙◌}
 use mathlib.Core.List.{List, [], ◌∷◌, ◌++◌}
-use Prim.Native.Nat.{ℕ, zero, suc, ◌+◌, ◌*◌, ◌/◌, ◌%◌, ◌^◌, ◌<◌, ◌≤◌}
+use Prim.Native.Nat.{ℕ, zero, suc, ◌+◌, ◌-◌, ◌*◌, ◌/◌, ◌%◌, ◌^◌, ◌<◌, ◌≤◌}
 use native.Mathlib.Nat.{add-zero, le_of_suc-le-suc}
 use native.Mathlib.Omega.{arith}
 use lib.ListN.{length, get_or, set, take, drop}
 use lib.Seq.{get_or-take, get_or-drop}
-use Rattle.endian.specs.Lists.{each, zeros, Words}
+use Rattle.endian.specs.Lists.{each, zeros, padded, Words}
 use Rattle.endian.specs.Endian.{word, byte_of, first_bytes}
 use Rattle.endian.proofs.Lists.{length_each, get_or_each, copy_more}
 
@@ -54,6 +54,25 @@ pub word_at : (l : List ℕ) (f : ℕ)
 unfolding word
 word_at l f =
     let g : (i : ℕ) → i < 4 → get_or (take 4 (drop f l)) i 0 ≡ get_or l (f + i) 0 = λ i h. get_or-take 4 (drop f l) i 0 h ∙ get_or-drop f l i 0 in
+    rw (g 0 (omega arith), g 1 (omega arith), g 2 (omega arith), g 3 (omega arith), add-zero)
+
+zeros_read : (k i : ℕ) → get_or (zeros k) i 0 ≡ 0
+zeros_read zero i = refl
+zeros_read (suc k) zero = refl
+zeros_read (suc k) (suc i) = zeros_read k i
+
+filled_read : (x : List ℕ) (k i : ℕ) → get_or (x ++ zeros k) i 0 ≡ get_or x i 0
+filled_read [] k i = zeros_read k i
+filled_read (y ∷ x) k zero = refl
+filled_read (y ∷ x) k (suc i) = filled_read x k i
+
+-- a word behind whose bytes zeros stand for those that there are not
+pub word_filled : (l : List ℕ) (f : ℕ) → word (padded 4 (take 4 (drop f l))) 0 ≡ word l f
+unfolding word
+word_filled l f =
+    let p : List ℕ = take 4 (drop f l) in
+    let g : (i : ℕ) → i < 4 → get_or (padded 4 p) i 0 ≡ get_or l (f + i) 0 =
+        λ i h. filled_read p (4 - length p) i ∙ get_or-take 4 (drop f l) i 0 h ∙ get_or-drop f l i 0 in
     rw (g 0 (omega arith), g 1 (omega arith), g 2 (omega arith), g 3 (omega arith), add-zero)
 
 -- zeros are words

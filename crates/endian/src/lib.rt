@@ -4,7 +4,7 @@
 ghost use Rattle.std.specs.Prelude.{◌≡◌, ◌+◌, ◌≤◌, ◌/◌, ◌%◌, true, ◌&&◌, eqb, get_or, length, take, drop};
 ghost use Rattle.std.specs.List.{fold, zip};
 ghost use Rattle.std.proofs.Math.Seq.{paste};
-ghost use Rattle.endian.specs.Lists.{zeros, put_at, same};
+ghost use Rattle.endian.specs.Lists.{zeros, padded, put_at, same};
 ghost use Rattle.endian.specs.Endian.{word, byte_of, first_bytes};
 
 // The word of four bytes.
@@ -14,21 +14,22 @@ pub fn word(bytes: [u8; 4]) -> u32
     u32::from_le_bytes(bytes)
 }
 
-// The word at a place.
+// The word at a place; zeros stand for bytes behind the last.
 pub fn word_at(bytes: &[u8], at: usize) -> u32
-    requires { at + 4 ≤ length bytes.now }
     ensures { result ≡ word bytes.now at }
 {
-    word([bytes[at], bytes[at + 1], bytes[at + 2], bytes[at + 3]])
+    word(part(bytes, at))
 }
 
-// N bytes from a place on.
+// N bytes from a place on; zeros stand for those behind the last.
 pub fn part<const N: usize>(bytes: &[u8], from: usize) -> [u8; N]
-    requires { from + N ≤ length bytes.now }
-    ensures { result ≡ take N (drop from bytes.now) }
+    ensures whole { from + N ≤ length bytes.now → result ≡ take N (drop from bytes.now) }
+    ensures filled { result ≡ padded N (take N (drop from bytes.now)) }
 {
-    let mut p = [0u8; N];
-    p.copy_from_slice(&bytes[from..from + N]);
+    let mut p = [0; N];
+    if from <= bytes.len() {
+        put(&mut p, 0, first(&bytes[from..], N));
+    }
     p
 }
 
@@ -69,22 +70,14 @@ pub fn clear(words: &mut [u32])
     words.fill(0);
 }
 
-// Writes bytes from a place on, where they fit.
-pub fn paste(out: &mut [u8], at: usize, src: &[u8])
-    requires { at + length src.now ≤ length out.old }
-    ensures { out.new ≡ paste out.old at src.now (length src.now) }
-{
-    out[at..at + src.len()].copy_from_slice(src);
-}
-
 // Writes bytes from a place on; where they do not fit, none.
 pub fn put(out: &mut [u8], from: usize, x: &[u8])
-    ensures { out.new ≡ put_at from x.now out.old }
+    ensures bytes { out.new ≡ put_at from x.now out.old }
+    ensures fits { from + length x.now ≤ length out.old → out.new ≡ paste out.old from x.now (length x.now) }
 {
-    if out.len() < from || out.len() - from < x.len() {
-        return;
+    if from <= out.len() && x.len() <= out.len() - from {
+        out[from..from + x.len()].copy_from_slice(x);
     }
-    paste(out, from, x);
 }
 
 // Whether no two bytes at the same place differ. Each is looked at, wherever they differ: without an early exit what calls this is small enough

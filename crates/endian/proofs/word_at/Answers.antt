@@ -1,6 +1,5 @@
-use Rattle.endian.specs.Endian.{word}
+use Rattle.endian.proofs.Words.{word_filled}
 use Rattle.endian.proofs.word_at.Goals as goal
 
 pub returns : goal.returns
-unfolding word
-returns c = c.word.ensures
+returns c = rw (c.word.ensures, c.part.ensures.filled) (word_filled c.args.bytes.now c.args.at)
