@@ -7,7 +7,7 @@ use native.Mathlib.Omega.{arith}
 use native.Mathlib.Numerals.{add-one}
 use lib.ListN.{length, get_or, set, take, drop, replicate, length-drop}
 use lib.Seq.{paste-suc, take_all, take-length, slice_empty}
-use borrow.Author.Tests.{le-leb, lt-leb}
+use borrow.Author.Tests.{le-leb}
 use Rattle.endian.specs.Lists.{each, put_at}
 
 -- a list is the list of its elements
@@ -74,10 +74,7 @@ foldl_snoc f b (y ∷ ys) x = foldl_snoc f (f b y) ys x
 pub copied : (s d : List ℕ) (n : ℕ) → length s ≡ n → take (length s) s ++ drop (length s) (take n d) ≡ s
 copied s d n e = rw (take-length s, e, slice_empty n d) (append-nil s)
 
--- bytes that fit are put, and others are not
+-- bytes that fit are put
 module _ (from : ℕ) (x l : List ℕ) where
   pub put_fits : from + length x ≤ length l → put_at from x l ≡ take from l ++ x ++ drop (length x) (drop from l)
   put_fits h = rw (le-leb (from + length x) (length l) h)
-
-  pub put_out : length l < from + length x → put_at from x l ≡ l
-  put_out h = rw (lt-leb (from + length x) (length l) h)
