@@ -40,7 +40,7 @@ pub struct Digests {
     pub first: [u8; 32],
     // Zeros where there is none.
     pub second: [u8; 32],
-    // Mask bit 1: there is a second.
+    // Mask bit 1: there is a second. Not an Option: `mastfrap_act` promises C the 32 bytes as they were lent, also where there is none.
     pub has_second: bool,
 }
 
