@@ -12,4 +12,4 @@ returns c =
     let r = c.first.result.now in
     let l : length r ≤ 256 = rw c.first.ensures (omega (arith, length-take 256 c.args.«record».now)) in
     let f : 0 + length r ≤ length (replicate {A = ℕ} 256 0) = rw length-replicate (omega arith) in
-    rw (← c.first.ensures) (c.put.ensures ∙ put_fits 0 r (replicate 256 0) f ∙ filled r 256)
+    rw (← c.first.ensures) (c.put.ensures.bytes ∙ put_fits 0 r (replicate 256 0) f ∙ filled r 256)
