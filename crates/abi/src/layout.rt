@@ -96,11 +96,11 @@ pub fn write(s: State, numbers: &mut [u32; 3], bytes: &mut [u8; 268])
     ensures { lent numbers.new bytes.new ≡ memory_of s }
 {
     *numbers = [s.config.ram_len as u32, s.progress.size, s.progress.block];
-    endian::paste(bytes, 0, &s.incoming.body);
-    endian::paste(bytes, 128, &small_of(s));
-    endian::paste(bytes, 132, &s.config.digests.first);
-    endian::paste(bytes, 164, &s.config.measured_id);
-    endian::paste(bytes, 196, &s.config.udi);
-    endian::paste(bytes, 204, &s.progress.uss);
-    endian::paste(bytes, 236, &s.config.digests.second);
+    endian::put(bytes, 0, &s.incoming.body);
+    endian::put(bytes, 128, &small_of(s));
+    endian::put(bytes, 132, &s.config.digests.first);
+    endian::put(bytes, 164, &s.config.measured_id);
+    endian::put(bytes, 196, &s.config.udi);
+    endian::put(bytes, 204, &s.progress.uss);
+    endian::put(bytes, 236, &s.config.digests.second);
 }

@@ -21,10 +21,10 @@ fn load_body(size: u32, secret: Option<[u8; 32]>) -> [u8; 128]
 {
     let mut load = [0u8; 128];
     load[0] = 0x03;
-    endian::paste(&mut load, 1, &size.to_le_bytes());
+    endian::put(&mut load, 1, &size.to_le_bytes());
     if let Some(uss) = secret {
         load[5] = 1;
-        endian::paste(&mut load, 6, &uss);
+        endian::put(&mut load, 6, &uss);
     }
     load
 }
@@ -39,7 +39,7 @@ fn block_body(program: &[u8], block: u32) -> [u8; 128]
     let from = protocol::place_of(block);
     let mut body = [0u8; 128];
     body[0] = 0x05;
-    endian::paste(&mut body, 1, &program[from..from + n]);
+    endian::put(&mut body, 1, &program[from..from + n]);
     body
 }
 
@@ -61,5 +61,5 @@ pub fn put(room: &mut [u8], id: u8, body: [u8; 128])
     ensures { room.new ≡ put_in room.old (command_header id ∷ body) }
 {
     room[0] = header(id);
-    endian::paste(room, 1, &body);
+    endian::put(room, 1, &body);
 }

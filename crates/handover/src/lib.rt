@@ -77,8 +77,8 @@ fn mix(cdi: &[u8], seed: &[u8]) -> [u8; 32]
     ensures { result ≡ mixed cdi.now seed.now }
 {
     let mut both = [0u8; 64];
-    endian::paste(&mut both, 0, cdi);
-    endian::paste(&mut both, 32, seed);
+    endian::put(&mut both, 0, cdi);
+    endian::put(&mut both, 32, seed);
     blake2s::digest(&both)
 }
 
@@ -99,14 +99,14 @@ fn write(out: &mut [u8], next: Next<'_>, measured_id: [u8; 32])
     requires { (length out.old ≡ 256) × (length next.next_data.now ≡ (data_field (has_second next.mask)).size) }
     ensures { out.new ≡ written_record (asked_in next.entry) measured_id }
 {
-    endian::paste(out, 0, &next.next_type.to_le_bytes());
-    endian::paste(out, 4, &next.mask.to_le_bytes());
-    endian::paste(out, 8, &next.first);
-    endian::paste(out, 40, &measured_id);
+    endian::put(out, 0, &next.next_type.to_le_bytes());
+    endian::put(out, 4, &next.mask.to_le_bytes());
+    endian::put(out, 8, &next.first);
+    endian::put(out, 40, &measured_id);
     if next.has_second() {
-        endian::paste(out, 72, &next.second);
+        endian::put(out, 72, &next.second);
     }
-    endian::paste(out, next.data_from(), next.next_data);
+    endian::put(out, next.data_from(), next.next_data);
 }
 
 // Hands over to the next program: writes the record of its start, and zeroes the CDI.

@@ -51,7 +51,7 @@ pub fn boot<'a>(
         return super::starting::end(Stop::ProgramSize, c.ram_len);
     }
     let digest = blake2s::digest(program);
-    endian::paste(ram, 0, program);
+    endian::put(ram, 0, program);
     let p = head::of_size(Phase::Loading, size as u32);
     super::starting::start_or_stop(c, p, digest, uds)
 }

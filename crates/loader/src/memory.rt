@@ -13,7 +13,7 @@ pub fn put(room: &mut [u8; 129], r: Reply)
     ensures { room.new ≡ put_in room.old (sent r) }
 {
     room[0] = r.header;
-    endian::paste(room, 1, &r.body[..r.len]);
+    endian::put(room, 1, &r.body[..r.len]);
 }
 
 // Puts the program bytes that a block carries in RAM.
@@ -22,7 +22,7 @@ pub fn store(ram: &mut [u8], f: Frame, size: u32, block: u32)
     ensures { ram.new ≡ stored_in ram.old (bytes_of f) size block }
 {
     let n = protocol::count_in(size, block);
-    endian::paste(ram, protocol::place_of(block), &f.body[1..n + 1]);
+    endian::put(ram, protocol::place_of(block), &f.body[1..n + 1]);
 }
 
 // The device secret as bytes.

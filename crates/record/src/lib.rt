@@ -77,9 +77,7 @@ impl TryFrom<u32> for ResetType {
 pub fn front(record: &[u8]) -> [u8; 256]
     ensures { result ≡ padded 256 (take 256 «record».now) }
 {
-    let mut bytes = [0u8; 256];
-    endian::put(&mut bytes, 0, endian::first(record, 256));
-    bytes
+    endian::part(record, 0)
 }
 
 // The second allowed digest. Where there is none its bytes are data, and data is not read.

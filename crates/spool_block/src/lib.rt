@@ -157,8 +157,8 @@ fn unchecked(number: u32, x: &[u8]) -> [u8; 512]
 {
     let front = front(number, x.len() as u32);
     let mut b = [0u8; 512];
-    endian::paste(&mut b, 0, &front);
-    endian::paste(&mut b, 8, x);
+    endian::put(&mut b, 0, &front);
+    endian::put(&mut b, 8, x);
     b
 }
 
@@ -168,6 +168,6 @@ pub fn make(number: u32, x: &[u8]) -> [u8; 512]
 {
     let mut b = unchecked(number, endian::first(x, 472));
     let check = check_of(&b);
-    endian::paste(&mut b, 480, &check);
+    endian::put(&mut b, 480, &check);
     b
 }

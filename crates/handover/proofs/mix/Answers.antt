@@ -2,6 +2,7 @@
 use mathlib.Core.Path.{ap, ◌∙◌}
 use mathlib.Core.List.{List, [], ◌++◌}
 use Prim.Native.Nat.{ℕ}
+use borrow.Author.Rules.{rules}
 use native.Mathlib.Omega.{arith}
 use Rattle.endian.specs.Lists.{zeros}
 use Rattle.blake2s.specs.Hash.{hash_output}
@@ -13,6 +14,6 @@ pub returns : goal.returns
 returns c =
     let cdi = c.args.cdi.now in
     let seed = c.args.seed.now in
-    let both = joined cdi seed c.requires.0 c.requires.1 _ _ c.paste.ensures c.paste-2.ensures in
+    let both = joined cdi seed c.requires.0 c.requires.1 _ _ (c.put.ensures.fits (search rules)) (c.put-2.ensures.fits (search rules)) in
     let n = joined_length cdi seed c.requires.0 c.requires.1 in
     c.digest.ensures ∙ ap (λ (m : List ℕ). hash_output [] m (zeros 32)) both ∙ digest_zeros (cdi ++ seed) (omega (arith, n))
