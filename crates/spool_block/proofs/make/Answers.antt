@@ -1,4 +1,5 @@
 -- The check is that of the first 480 bytes, and stands behind them (`checked`).
+use Rattle.std.proofs.Common.{rules}
 use Prim.Native.Nat.{◌≤◌}
 use mathlib.Core.Path.{refl}
 use native.Mathlib.Omega.{arith}
@@ -17,5 +18,5 @@ returns c =
     let n = c.args.number in
     let x = take 472 c.args.x.now in
     let h : length x ≤ 472 = rw length-take (omega arith) in
-    rw (c.paste.ensures, c.unchecked-b.ensures, c.first.ensures)
+    rw ((c.put.ensures.fits (search rules)), c.unchecked-b.ensures, c.first.ensures)
         (checked (checked_part n x) (zeros 32) c.check_of-check.result (part_length n x h) refl (rw (c.check_of-check.ensures, c.unchecked-b.ensures, c.first.ensures)))

@@ -28,6 +28,6 @@ returns c =
       second = search (rules, w);
     } in
     both c.args.s _
-    (packed c.args.s c.args.bytes.now c.small_of.result c.paste.new.out c.paste-2.new.out c.paste-3.new.out c.paste-4.new.out c.paste-5.new.out
-    c.paste-6.new.out c.paste-7.new.out full sized c.small_of.ensures c.paste.ensures c.paste-2.ensures c.paste-3.ensures c.paste-4.ensures c.paste-5.ensures
-    c.paste-6.ensures c.paste-7.ensures)
+    (packed c.args.s c.args.bytes.now c.small_of.result c.put.new.out c.put-2.new.out c.put-3.new.out c.put-4.new.out c.put-5.new.out
+    c.put-6.new.out c.put-7.new.out full sized c.small_of.ensures (c.put.ensures.fits (search rules)) (c.put-2.ensures.fits (search rules)) (c.put-3.ensures.fits (search rules)) (c.put-4.ensures.fits (search rules)) (c.put-5.ensures.fits (search rules))
+    (c.put-6.ensures.fits (search rules)) (c.put-7.ensures.fits (search rules)))

@@ -1,4 +1,5 @@
 -- The part of the program, over zeros.
+use Rattle.std.proofs.Common.{rules}
 use Prim.Native.Nat.{ℕ, ◌+◌, ◌-◌, min}
 use mathlib.Core.Path.{◌≡◌, sym, ap, ◌∙◌}
 use native.Mathlib.Omega.{arith}
@@ -16,4 +17,4 @@ returns c =
     let rest = drop (place_of c.args.block) c.args.program.now in
     let k : from + n - from ≡ n = omega arith in
     let q : n ≡ min 127 (length rest) = c.count_in-n.ensures ∙ ap (λ (x : ℕ). min 127 x) (sym (length-drop (place_of c.args.block) c.args.program.now)) in
-    rw (c.paste.ensures, k, c.place_of-from.ensures, first_127 n rest q) (after_command 5 (take 127 rest))
+    rw ((c.put.ensures.fits (search rules)), k, c.place_of-from.ensures, first_127 n rest q) (after_command 5 (take 127 rest))

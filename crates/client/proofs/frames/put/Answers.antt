@@ -10,4 +10,4 @@ pub returns : goal.returns
 returns c =
     let a = c.args in
     let l : length a.body ≡ 128 = search rules in
-    rw (c.paste.ensures, c.header.ensures) (put_command a.room.now a.body (command_header a.id) c.requires l)
+    rw ((c.put.ensures.fits (search rules)), c.header.ensures) (put_command a.room.now a.body (command_header a.id) c.requires l)

@@ -1,4 +1,5 @@
 -- The front part is what is tested, measured and stored (`booted`).
+use Rattle.std.proofs.Common.{rules}
 use Prim.Native.Nat.{◌≤◌}
 use lib.ListN.{length}
 use mathlib.Core.Path.{◌≡◌, ◌∙◌}
@@ -21,4 +22,4 @@ returns c =
     let short : length c.front-program.result.now ≤ 4294967295 = omega arith in
     booted _ a.size a.c a.ram.now a.uds.now _ c.fits.result c.front-program.ensures c.fits.ensures c.if-not-fits.false
     c.digest-digest.result c.of_size-p.result c.start_or_stop.result _ _ (c.digest-digest.ensures ∙ digest_zeros c.front-program.result.now short)
-    c.paste.ensures c.of_size-p.ensures c.start_or_stop.ensures
+    (c.put.ensures.fits (search rules)) c.of_size-p.ensures c.start_or_stop.ensures
