@@ -1,7 +1,6 @@
 // What a whole frame asks for: document 01, the table of commands.
-ghost use Rattle.std.specs.Prelude.{◌≡◌, ◌<◌};
-ghost use Rattle.protocol.specs.Commands.{longest};
-ghost use Rattle.head.specs.Act.{sized, request_waiting, request_loading, request_in, request_of, loaded, next_block};
+ghost use Rattle.std.specs.Prelude.{◌≡◌};
+ghost use Rattle.head.specs.Act.{sized, request_waiting, request_loading, request_in, request_of, loaded};
 ghost use Rattle.head.specs.Steps.{request, request_for, frame_of};
 
 use super::{Action, Incoming, Phase, Progress, State, Stop};
@@ -95,16 +94,5 @@ pub fn loaded(l: Load) -> Progress
         block: 0,
         uss_used: protocol::uses_uss(l),
         uss,
-    }
-}
-
-// The progress after a block that is not the last.
-pub fn next_block(p: Progress) -> Progress
-    requires { p.block < longest }
-    ensures { result ≡ next_block p }
-{
-    Progress {
-        block: p.block + 1,
-        ..p
     }
 }

@@ -14,7 +14,7 @@ ghost use Rattle.head.specs.Gather.{gather_refusal};
 ghost use Rattle.head.specs.Act.{act_refusal};
 ghost use Rattle.head.specs.Answers.{refusal_number, stop_number, admission_number};
 
-pub use commands::{decide, loaded, next_block};
+pub use commands::{decide, loaded};
 pub use gathering::gather;
 use record::Digests;
 pub use states::{allowed, config_of, ended, fits, frame_ok, idle, is_whole, load_ok, of_size};

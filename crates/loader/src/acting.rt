@@ -99,7 +99,11 @@ fn act_block(s: State, room: &mut [u8; 129], ram: &mut [u8], uds: &mut [u32; 8])
     if protocol::is_last(p.size, p.block) {
         return finish(s, room, ram, uds);
     }
-    answer(s, head::next_block(p), protocol::block_reply(s.incoming.header), room)
+    let next = Progress {
+        block: p.block + 1,
+        ..p
+    };
+    answer(s, next, protocol::block_reply(s.incoming.header), room)
 }
 
 // A whole frame of a call that is not refused. That RAM is short stays a `requires`, here and in three functions more: a struct of the lent RAM

@@ -1,4 +1,5 @@
 -- The block is stored; whether it is the last decides the rest.
+use mathlib.Core.Path.{refl}
 use native.Mathlib.Omega.{arith}
 use Rattle.protocol.specs.Replies.{block_reply}
 use Rattle.loader.proofs.Steps.{last_block, other_block}
@@ -18,5 +19,5 @@ pub returns : goal.returns
 returns c =
     let a = c.args in
     other_block a.s c.from.result c.is_last.result a.room.now a.ram.now _ a.uds.now c.from.ensures c.store.ensures
-    c.is_last.ensures c.if-is_last.false c.block_reply.result c.next_block.result c.answer.result _ c.block_reply.ensures
-    c.next_block.ensures c.answer.ensures
+    c.is_last.ensures c.if-is_last.false c.block_reply.result _ c.answer.result _ c.block_reply.ensures
+    refl c.answer.ensures
