@@ -1,6 +1,5 @@
 // RFC 7693, section 3.3, on a context. A block is compressed once a byte has come that stands behind it, so a full one waits.
 ghost use Rattle.std.specs.Prelude.{◌≡◌, true, cond, ◌++◌, ◌+◌, ◌*◌, ◌^◌, ◌<◌, ◌≤◌, length, take, drop};
-ghost use Rattle.std.proofs.Math.Seq.{paste};
 ghost use Rattle.endian.specs.Lists.{padded};
 ghost use Rattle.endian.specs.Endian.{word, first_bytes};
 ghost use Rattle.rfc7693.specs.Rfc7693.{words, F, initial, blake2s};
@@ -9,7 +8,7 @@ ghost use Rattle.blake2s.specs.Stream.{earlier, begun, extended, closed};
 
 use super::Context;
 use compression::{IV, compress};
-use endian::{paste, word_at};
+use endian::word_at;
 use std::array;
 
 // The first state, with the lengths of the key and of the hash in it.
@@ -23,11 +22,11 @@ fn first_state(kk: usize, nn: usize) -> [u32; 8]
 }
 
 // Leaves the first bytes of b, and behind them s and zeros.
-fn put(b: &mut [u8; 64], at: usize, s: &[u8])
+fn put_padded(b: &mut [u8; 64], at: usize, s: &[u8])
     requires { at + length s.now ≤ 64 }
     ensures { b.new ≡ padded 64 (take at b.old ++ s.now) }
 {
-    paste(b, at, s);
+    endian::put(b, at, s);
     b[at + s.len()..].fill(0);
 }
 
@@ -88,16 +87,16 @@ fn absorb(h: &mut [u32; 8], block: &mut [u8; 64], n: u64, s: &[u8])
     let at = waiting(n);
     let room = 64 - at;
     if s.len() <= room {
-        put(block, at, s);
+        put_padded(block, at, s);
         return;
     }
-    paste(block, at, &s[..room]);
+    endian::put(block, at, &s[..room]);
     let t = n + (room as u64);
     compress_blocks(h, t, block, 1, false);
     let rest = &s[room..];
     let k = before_final(rest.len());
     compress_blocks(h, t + 64, rest, k, false);
-    put(block, 0, &rest[64 * k..]);
+    put_padded(block, 0, &rest[64 * k..]);
 }
 
 // Writes the hash of n bytes: the block that waits is the final one.
@@ -115,7 +114,7 @@ pub fn begun(key: &[u8], size: usize) -> Context
     ensures { result ≡ begun key.now size }
 {
     let mut block = [0u8; 64];
-    paste(&mut block, 0, key);
+    endian::put(&mut block, 0, key);
     Context {
         h: first_state(key.len(), size),
         block,
@@ -149,7 +148,7 @@ pub fn closed(c: Context, out: &mut [u8])
     let mut h = c.h;
     let mut block = c.block;
     let n = bytes_in(c.message, c.keyed);
-    put(&mut block, waiting(n), &[]);
+    put_padded(&mut block, waiting(n), &[]);
     close(&mut h, &block, n, out);
 }
 
@@ -160,7 +159,7 @@ pub fn whole(key: &[u8], msg: &[u8], out: &mut [u8])
 {
     let mut h = first_state(key.len(), out.len());
     let mut block = [0u8; 64];
-    paste(&mut block, 0, key);
+    endian::put(&mut block, 0, key);
     let keyed = key.len() != 0;
     absorb(&mut h, &mut block, bytes_in(0, keyed), msg);
     close(&mut h, &block, bytes_in(msg.len() as u32, keyed), out);

@@ -140,7 +140,11 @@ fn block(w: Monitor) -> Monitor
     if protocol::is_last(p.size, p.block) {
         return measure(w, hash);
     }
-    onward(w, head::next_block(p), hash)
+    let next = Progress {
+        block: p.block + 1,
+        ..p
+    };
+    onward(w, next, hash)
 }
 
 // A whole frame for the firmware.

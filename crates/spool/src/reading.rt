@@ -70,7 +70,7 @@ pub fn gather(blocks: &[[u8; 512]], room: &mut [u8]) -> usize
     let mut at = 0;
     for block in blocks {
         let used = spool_block::used(block);
-        endian::paste(room, at, used);
+        endian::put(room, at, used);
         at += used.len();
     }
     at

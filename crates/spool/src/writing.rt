@@ -21,7 +21,7 @@ pub fn spread(program: &[u8], room: &mut [u8]) -> usize
     // By places: of a slice that chunks_exact_mut has lent a proof knows the length alone.
     for place in 0..blocks {
         let block = spool_block::make(place as u32, &program[472 * place..]);
-        endian::paste(room, 512 * place, &block);
+        endian::put(room, 512 * place, &block);
     }
     512 * blocks
 }

@@ -1,4 +1,5 @@
 -- The laws for a part for which the block has room (`state_short`) and for a longer one (`state_long`), with what the calls ensure.
+use Rattle.std.proofs.Common.{rules}
 use mathlib.Core.Path.{refl}
 use Prim.Native.Nat.{◌-◌, ◌*◌, ◌<◌}
 use native.Mathlib.Omega.{arith}
@@ -14,7 +15,7 @@ returns-then-s-room c =
     let w = c.waiting-at.ensures in
     let at = c.waiting-at.result in (
       state_short a.block.now a.n at c.told-block w.0 w.1 a.s.now (omega arith) a.h.now,
-      rw c.put.ensures (block_short a.block.now a.n at c.told-block w.0 w.1 a.s.now (omega arith)),
+      rw c.put_padded.ensures (block_short a.block.now a.n at c.told-block w.0 w.1 a.s.now (omega arith)),
     )
 
 pub returns : goal.returns
@@ -29,6 +30,6 @@ returns c =
     let e = drop_whole room s in
     let n = c.before_final-k.ensures.0 in
     let k = 64 * c.before_final-k.result in (
-      state_long a.block.now a.n at c.told-block w.0 w.1 s room rest refl m e a.h.now c.paste.ensures c.compress_blocks.ensures n c.compress_blocks-2.ensures,
-      rw (c.put-2.ensures, drop_whole k rest, e, drop-drop k room s) (block_long a.block.now a.n at c.told-block w.0 w.1 s room rest refl m e n),
+      state_long a.block.now a.n at c.told-block w.0 w.1 s room rest refl m e a.h.now (c.put.ensures.fits (search rules)) c.compress_blocks.ensures n c.compress_blocks-2.ensures,
+      rw (c.put_padded-2.ensures, drop_whole k rest, e, drop-drop k room s) (block_long a.block.now a.n at c.told-block w.0 w.1 s room rest refl m e n),
     )

@@ -17,5 +17,5 @@ returns c =
     let a = c.args.c in
     let n = total a in
     let e : c.waiting.result ≡ c.bytes_in-n.result - 64 * earlier c.bytes_in-n.result = omega arith in
-    rw (c.close.ensures, c.put.ensures, append-nil, e, c.bytes_in-n.ensures, c.requires.0)
+    rw (c.close.ensures, c.put_padded.ensures, append-nil, e, c.bytes_in-n.ensures, c.requires.0)
     (sym (bytes_front a.size 32 (F a.h (words (padded 64 (take (n - 64 * earlier n) a.block))) n true) c.requires.1))

@@ -1,4 +1,5 @@
 -- The message as one part gives the hash (`in_one`).
+use Rattle.std.proofs.Common.{rules}
 use lib.ListN.{length}
 use Rattle.blake2s.proofs.Contexts.{copied_padded}
 use Rattle.blake2s.proofs.Streams.{in_one}
@@ -13,7 +14,7 @@ returns c =
       c.absorb.ensures.1,
       c.bytes_in-2.ensures,
       c.bytes_in.ensures,
-      c.paste.ensures,
+      (c.put.ensures.fits (search rules)),
       copied_padded a.key.now,
       c.first_state-h.ensures,
     )

@@ -1,4 +1,5 @@
 -- Of i blocks at most 472i bytes have come, so the next one's fit (`uses_most`).
+use Rattle.std.proofs.Common.{rules}
 use Rattle.std.proofs.Common.{ℕ, List, [], ◌*◌, ◌≤◌, ◌+◌, length, take, get_or, sym, ap, ◌∙◌, arith, length-take, length-append}
 use Rattle.protocol.specs.Replies.{put_in}
 use Rattle.spool_block.specs.Block.{used_in}
@@ -35,5 +36,5 @@ loop-block-preserved c =
     let l : length x + length y ≤ length old = omega arith in
     let k : length x + length y ≤ length (put_in old x) = rw (put_length old x (omega arith)) l in (
       rw (c.loop-block.invariant.0, c.used-used.ensures, more) (sym (length-append x y)),
-      rw (c.paste.ensures, c.loop-block.invariant.0, c.loop-block.invariant.1, c.used-used.ensures, more) (paste_put (length x) y (put_in old x) k ∙ put_next old x y l),
+      rw ((c.put.ensures.fits (search rules)), c.loop-block.invariant.0, c.loop-block.invariant.1, c.used-used.ensures, more) (paste_put (length x) y (put_in old x) k ∙ put_next old x y l),
     )

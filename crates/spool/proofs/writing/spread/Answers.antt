@@ -1,4 +1,5 @@
 -- A block has 512 bytes, so the next stands where a turn pastes it (`put_next`).
+use Rattle.std.proofs.Common.{rules}
 use Prim.Native.Nat.{ℕ, ◌+◌, ◌*◌, ◌≤◌}
 use mathlib.Core.List.{List}
 use mathlib.Core.Path.{◌≡◌, sym, ◌∙◌}
@@ -38,7 +39,7 @@ loop-place-preserved c =
     let made : c.make-block.result ≡ y = rw (drop_whole (472 * i) p) at c.make-block.ensures in
     let l : length x + length y ≤ length old = omega (arith, c.requires.1, c.spool_blocks-blocks.ensures) in
     let k : length x + length y ≤ length (put_in old x) = rw (put_length old x (omega arith)) l in
-    rw (c.paste.ensures, made, c.loop-place.invariant, front_more i (blocks p), ← n) (paste_put (length x) y (put_in old x) k ∙ put_next old x y l)
+    rw ((c.put.ensures.fits (search rules)), made, c.loop-place.invariant, front_more i (blocks p), ← n) (paste_put (length x) y (put_in old x) k ∙ put_next old x y l)
 
 pub returns : goal.returns
 unfolding spool_of
