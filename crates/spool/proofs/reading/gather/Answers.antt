@@ -1,12 +1,11 @@
 -- Of i blocks at most 472i bytes have come, so the next one's fit (`uses_most`).
-use Rattle.std.proofs.Common.{rules}
 use Rattle.std.proofs.Common.{ℕ, List, [], ◌*◌, ◌≤◌, ◌+◌, length, take, get_or, sym, ap, ◌∙◌, arith, length-take, length-append}
 use Rattle.protocol.specs.Replies.{put_in}
 use Rattle.spool_block.specs.Block.{used_in}
 use Rattle.spool.specs.Steps.{uses_of}
 use Rattle.spool.proofs.Chunks.{uses_none, uses_more, uses_most}
 use Rattle.spool.proofs.Parts.{used_most}
-use Rattle.spool.proofs.Rooms.{paste_put, put_none, put_length, put_next}
+use Rattle.spool.proofs.Rooms.{put_none, put_next}
 use Rattle.spool.proofs.reading.gather.Goals as goal
 
 -- so many bytes have come of i blocks
@@ -16,8 +15,8 @@ most bs i = let a = uses_most (take i bs) in let b = length-take i bs in omega a
 pub loop-block-init : goal.loop-block-init
 loop-block-init c = (sym (ap length uses_none), sym (ap (put_in c.args.room.now) uses_none ∙ put_none c.args.room.now))
 
-pub paste-requires : goal.paste-requires
-paste-requires c =
+pub overflow_add-at : goal.overflow_add-at
+overflow_add-at c =
     let i = c.loop-block.block-index in
     let m = most c.args.blocks.now i in
     let u : length c.used-used.result.now ≤ 472 = rw c.used-used.ensures (used_most (get_or c.args.blocks.now i [])) in
@@ -33,8 +32,7 @@ loop-block-preserved c =
     let m = most bs i in
     let u = used_most (get_or bs i []) in
     let more = uses_more bs i c.loop-block-test.true in
-    let l : length x + length y ≤ length old = omega arith in
-    let k : length x + length y ≤ length (put_in old x) = rw (put_length old x (omega arith)) l in (
+    let l : length x + length y ≤ length old = omega arith in (
       rw (c.loop-block.invariant.0, c.used-used.ensures, more) (sym (length-append x y)),
-      rw ((c.put.ensures.fits (search rules)), c.loop-block.invariant.0, c.loop-block.invariant.1, c.used-used.ensures, more) (paste_put (length x) y (put_in old x) k ∙ put_next old x y l),
+      rw (c.put.ensures.bytes, c.loop-block.invariant.0, c.loop-block.invariant.1, c.used-used.ensures, more) (put_next old x y l),
     )

@@ -1,5 +1,4 @@
 -- A block has 512 bytes, so the next stands where a turn pastes it (`put_next`).
-use Rattle.std.proofs.Common.{rules}
 use Prim.Native.Nat.{ℕ, ◌+◌, ◌*◌, ◌≤◌}
 use mathlib.Core.List.{List}
 use mathlib.Core.Path.{◌≡◌, sym, ◌∙◌}
@@ -12,7 +11,7 @@ use Rattle.spool_block.proofs.Made.{block_length}
 use Rattle.spool.specs.Reading.{part}
 use Rattle.spool.specs.Writing.{spool_blocks, spool_of}
 use Rattle.spool.proofs.Parts.{front, front_none, front_more, front_length}
-use Rattle.spool.proofs.Rooms.{paste_put, put_none, put_length, put_next}
+use Rattle.spool.proofs.Rooms.{put_none, put_next}
 use Rattle.spool.proofs.writing.spread.Goals as goal
 
 abbrev blocks : List ℕ → ℕ → List ℕ
@@ -38,8 +37,7 @@ loop-place-preserved c =
     let m = whole p i in
     let made : c.make-block.result ≡ y = rw (drop_whole (472 * i) p) at c.make-block.ensures in
     let l : length x + length y ≤ length old = omega (arith, c.requires.1, c.spool_blocks-blocks.ensures) in
-    let k : length x + length y ≤ length (put_in old x) = rw (put_length old x (omega arith)) l in
-    rw ((c.put.ensures.fits (search rules)), made, c.loop-place.invariant, front_more i (blocks p), ← n) (paste_put (length x) y (put_in old x) k ∙ put_next old x y l)
+    rw (c.put.ensures.bytes, made, c.loop-place.invariant, front_more i (blocks p), ← n) (put_next old x y l)
 
 pub returns : goal.returns
 unfolding spool_of
