@@ -2,7 +2,7 @@
 use mathlib.Core.Path.{◌≡◌, sym, ap, ◌∙◌}
 use mathlib.Core.Logic.{⊎_elim}
 use borrow.Author.Tests.{eq-eqb, ne_eqb}
-use Rattle.std.specs.Prelude.{Option, Some}
+use Rattle.std.specs.Prelude.{Option}
 use Rattle.record.specs.Record.{type_number, record_of, record_at}
 use Rattle.record.specs.Types.{unknown, source_at, source_of}
 use Rattle.record.specs.declared.Place.{Place}
