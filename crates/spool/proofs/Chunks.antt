@@ -60,7 +60,7 @@ verdicts_each n i (suc m) g =
     λ j. let e : suc i + j ≡ i + suc j = omega arith in ap (λ k. block_refusal n k (g (suc j))) e in
     let first : i ≡ i + 0 = omega arith in
     ap₂ ◌∷◌ (ap (λ k. block_refusal n k (g 0)) first)
-        (verdicts_each n (suc i) m (λ j. g (suc j)) ∙ each_ext m (λ j. block_refusal n (suc i + j) (g (suc j))) (λ j. block_refusal n (i + suc j) (g (suc j))) later)
+    (verdicts_each n (suc i) m (λ j. g (suc j)) ∙ each_ext m (λ j. block_refusal n (suc i + j) (g (suc j))) (λ j. block_refusal n (i + suc j) (g (suc j))) later)
 
 pub verdicts_are : (s : List ℕ) → verdicts_from (blocks_of s) 0 ≡ each (blocks_in s) (refusal_at s)
 unfolding refusal_at

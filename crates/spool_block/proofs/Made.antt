@@ -48,8 +48,8 @@ unchecked_block i x f h e =
     let t : drop (0 + (8 + c)) (zeros 512) ≡ zeros (472 - c) ++ zeros 32 =
     drop_replicate (0 + (8 + c)) 512 0 ∙ ap zeros (m ∙ k) ∙ sym (replicate-append-replicate (472 - c) 32 0) in
     ap (λ j. paste (paste (zeros 512) 0 f j) 8 x c) l ∙ paste-paste (zeros 512) 0 f x 8 c (sym l) refl (omega arith)
-        ∙ paste_all (zeros 512) 0 (f ++ x) (8 + c) n ∙ ap (λ (z : List ℕ). f ++ x ++ z) t ∙ regroup f x (zeros (472 - c)) (zeros 32)
-        ∙ ap (λ (z : List ℕ). z ++ padded 472 x ++ zeros 32) e
+    ∙ paste_all (zeros 512) 0 (f ++ x) (8 + c) n ∙ ap (λ (z : List ℕ). f ++ x ++ z) t ∙ regroup f x (zeros (472 - c)) (zeros 32)
+    ∙ ap (λ (z : List ℕ). z ++ padded 472 x ++ zeros 32) e
   where
     regroup : (f x y z : List ℕ) → f ++ x ++ (y ++ z) ≡ f ++ (x ++ y) ++ z
     regroup f x y z = simp append_assoc

@@ -61,6 +61,6 @@ returns c =
     let n = blocks_in s in
     let sp : c.as_chunks.result.0.now ≡ blocks_of x = c.as_chunks.ensures.front ∙ chunks_are x in
     ap₂ (salvaging_as 0)
-        (c.mend_all.ensures.0 ∙ ap (λ (bs : List (List ℕ)). flatten (each n (λ i. (mended n i bs (block_at s i)).block))) sp)
-        (c.mend_all.ensures.1 ∙ ap (λ (bs : List (List ℕ)). put_in r (each n (λ i. (mended n i bs (block_at s i)).entry))) sp)
+    (c.mend_all.ensures.0 ∙ ap (λ (bs : List (List ℕ)). flatten (each n (λ i. (mended n i bs (block_at s i)).block))) sp)
+    (c.mend_all.ensures.1 ∙ ap (λ (bs : List (List ℕ)). put_in r (each n (λ i. (mended n i bs (block_at s i)).entry))) sp)
     ∙ sym (salvage_all s x r e)

@@ -1,7 +1,7 @@
 -- The check is that of the first 480 bytes, and stands behind them (`checked`).
-use Rattle.std.proofs.Common.{rules}
 use Prim.Native.Nat.{◌≤◌}
-use mathlib.Core.Path.{refl}
+use borrow.Author.Rules.{rules}
+use mathlib.Core.Path.{◌≡◌, refl}
 use native.Mathlib.Omega.{arith}
 use lib.ListN.{length, take, length-take}
 use Rattle.endian.specs.Lists.{zeros}
@@ -18,5 +18,7 @@ returns c =
     let n = c.args.number in
     let x = take 472 c.args.x.now in
     let h : length x ≤ 472 = rw length-take (omega arith) in
-    rw ((c.put.ensures.fits (search rules)), c.unchecked-b.ensures, c.first.ensures)
-        (checked (checked_part n x) (zeros 32) c.check_of-check.result (part_length n x h) refl (rw (c.check_of-check.ensures, c.unchecked-b.ensures, c.first.ensures)))
+    let d : length c.check_of-check.result ≡ 32 = search rules in
+    let put = c.put.ensures.fits (omega (arith, d)) in
+    rw (put, c.unchecked-b.ensures, c.first.ensures)
+    (checked (checked_part n x) (zeros 32) c.check_of-check.result (part_length n x h) refl (rw (c.check_of-check.ensures, c.unchecked-b.ensures, c.first.ensures)))

@@ -11,7 +11,7 @@ pub returns-then-is_empty : goal.returns-then-is_empty
 returns-then-is_empty c =
     let n = length c.args.spool.now in (
       elim c.then-is_empty.branch [
-        then-is_empty-via-then-is_empty w ↦ let e = eqb-true _ 0 (sym c.is_empty.ensures ∙ w.if-is_empty.true) in bad_when n (λ h k l. omega (arith, e))
+        | then-is_empty-via-then-is_empty w ↦ let e = eqb-true _ 0 (sym c.is_empty.ensures ∙ w.if-is_empty.true) in bad_when n (λ h k l. omega (arith, e))
         | then-is_empty-via-else-is_empty+then-blocks-gt278 w ↦ bad_when n (λ h k l. omega arith)
         | then-is_empty-via-else-is_empty+else-blocks-gt278+then-not-is_empty w ↦
             let e = eqb-false _ 0 (sym w.is_empty-else-blocks-gt278.ensures ∙ w.if-not-is_empty.true) in bad_when n (λ h k l. omega (arith, e))

@@ -5,7 +5,7 @@ use Rattle.spool_block.specs.Block.{used_in}
 use Rattle.spool.specs.Steps.{uses_of}
 use Rattle.spool.proofs.Chunks.{uses_none, uses_more, uses_most}
 use Rattle.spool.proofs.Parts.{used_most}
-use Rattle.spool.proofs.Rooms.{put_none, put_next}
+use Rattle.spool.proofs.Rooms.{paste_put, put_none, put_length, put_next}
 use Rattle.spool.proofs.reading.gather.Goals as goal
 
 -- so many bytes have come of i blocks
@@ -32,7 +32,8 @@ loop-block-preserved c =
     let m = most bs i in
     let u = used_most (get_or bs i []) in
     let more = uses_more bs i c.loop-block-test.true in
-    let l : length x + length y ≤ length old = omega arith in (
+    let l : length x + length y ≤ length old = omega arith in
+    let k = put_length old x (omega arith) in (
       rw (c.loop-block.invariant.0, c.used-used.ensures, more) (sym (length-append x y)),
       rw (c.put.ensures.bytes, c.loop-block.invariant.0, c.loop-block.invariant.1, c.used-used.ensures, more) (put_next old x y l),
     )

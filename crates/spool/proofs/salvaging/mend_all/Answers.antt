@@ -37,7 +37,7 @@ module _ (s : List ℕ) (sp : List (List ℕ)) (i : ℕ) where
       let k : 512 * i + 512 - 512 * i ≡ 512 = omega arith in
       let b : part_at t ≡ block_at s i =
       ap (λ j. take j (drop (512 * i) t)) k ∙ ap (λ u. take 512 (drop (512 * i) u)) e
-          ∙ ap (take 512) (subst (λ (j : ℕ). drop j (put_in s done) ≡ drop j s) l (put_rest s done)) in
+      ∙ ap (take 512) (subst (λ (j : ℕ). drop j (put_in s done) ≡ drop j s) l (put_rest s done)) in
       let m : mended (blocks_in s) i sp (part_at t) ≡ at i = ap (mended (blocks_in s) i sp) b in
       let z = (at i).block in
       let yz : y ≡ z = p.1 ∙ ap (λ (x : Mended). x.block) m in

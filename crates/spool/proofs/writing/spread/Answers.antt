@@ -11,7 +11,7 @@ use Rattle.spool_block.proofs.Made.{block_length}
 use Rattle.spool.specs.Reading.{part}
 use Rattle.spool.specs.Writing.{spool_blocks, spool_of}
 use Rattle.spool.proofs.Parts.{front, front_none, front_more, front_length}
-use Rattle.spool.proofs.Rooms.{put_none, put_next}
+use Rattle.spool.proofs.Rooms.{paste_put, put_none, put_length, put_next}
 use Rattle.spool.proofs.writing.spread.Goals as goal
 
 abbrev blocks : List ℕ → ℕ → List ℕ
