@@ -35,7 +35,10 @@ pub fn load_often(size: u32, times: u32) -> Loaded {
 fn session(bytes: &[u8], ram: &mut [u8]) -> Option<Start> {
     let mut record = [0u8; 256];
     record[0] = 4;
-    let empty = Slot { bytes: b"", size: 0 };
+    let empty = Slot {
+        bytes: b"",
+        size: 0,
+    };
     let flash = Flash {
         slot0: empty,
         slot1: empty,
@@ -43,7 +46,9 @@ fn session(bytes: &[u8], ram: &mut [u8]) -> Option<Start> {
     };
     let mut words = [0x13121110u32; 8];
     let mut room = [0u8; 129];
-    let mut state = loader::begin(&record, [0xd0; 8], flash, ram, &mut words).ok()?.state;
+    let mut state = loader::begin(&record, [0xd0; 8], flash, ram, &mut words)
+        .ok()?
+        .state;
     let mut last = None;
     for byte in bytes {
         // Not `.ok()?`: it copies the state once more at each byte (5.3 times plain C in place of 3.3, bench/pair.sh).

@@ -135,8 +135,15 @@ fn stop_advice(why: Stop) -> &'static str {
 
 fn put_position(t: &mut Text, p: Position) {
     if p.byte != 0 {
-        write!(t, "byte {} is at offset {} of frame {}", p.byte, p.offset, p.frame);
-        write!(t, " (frames for other endpoints counted, offset 0 is the header)\n");
+        write!(
+            t,
+            "byte {} is at offset {} of frame {}",
+            p.byte, p.offset, p.frame
+        );
+        write!(
+            t,
+            " (frames for other endpoints counted, offset 0 is the header)\n"
+        );
     }
 }
 

@@ -46,21 +46,13 @@ pub fn converse(
         }
         let event = receive(&mut line.input);
         t = job.advance(t.exchange, event);
-        if terminal {
-            show(rt, job.len, k, t.next, began);
-        }
+        show(rt, terminal, job.len, k, t.next, began);
     }
     t
 }
 
 // A frame that cannot be sent gets no answer, or the line is closed: `receive` tells.
-fn send(
-    output: &mut io::Result<File>,
-    program: &[u8],
-    id: u8,
-    secret: Option<[u8; 32]>,
-    k: u32,
-) {
+fn send(output: &mut io::Result<File>, program: &[u8], id: u8, secret: Option<[u8; 32]>, k: u32) {
     let mut room = [0u8; 129];
     let _ = client::make_frame(program, id, secret, k, &mut room);
     if let Ok(file) = output {
@@ -81,8 +73,9 @@ fn receive(input: &mut File) -> Event {
 // ---- progress
 
 // After the reply to frame k so many blocks are done. The line is ended with the load, if there is one: before the first reply there is not.
-fn show(rt: &HostRuntime, len: usize, k: u32, next: Next, began: u64) {
+fn show(rt: &HostRuntime, terminal: bool, len: usize, k: u32, next: Next, began: u64) {
     match next {
+        _ if !terminal => {}
         Next::Send => show_progress(rt, len, k, began),
         Next::Over(Ok(())) => {
             show_progress(rt, len, k, began);

@@ -65,13 +65,24 @@ fn secret(rt: &HostRuntime, job: Job) -> Result<Option<[u8; 32]>, Failure> {
     }
     let mut file = [0u8; 33];
     if COMMAND.read(rt, 6, &mut file)? != 32 {
-        return Err(refuse(rt, 6, job, job.open().exchange, upload::Failure::SecretLength));
+        return Err(refuse(
+            rt,
+            6,
+            job,
+            job.open().exchange,
+            upload::Failure::SecretLength,
+        ));
     }
     Ok(Some(endian::part(&file, 0)))
 }
 
 // Loads, and says how it went. The head has the program, also where the lines of a load cannot be written; then that is said.
-fn load(rt: &HostRuntime, program: &[u8], job: Job, secret: Option<[u8; 32]>) -> Result<(), Failure> {
+fn load(
+    rt: &HostRuntime,
+    program: &[u8],
+    job: Job,
+    secret: Option<[u8; 32]>,
+) -> Result<(), Failure> {
     let Some(mut line) = line::open(rt) else {
         return Err(refuse(rt, 1, job, job.open().exchange, upload::Failure::Device));
     };

@@ -16,16 +16,20 @@ pub fn lines(r: Record, bytes: [u8; 256]) -> Text {
 // The last line: the data, without the zeros at its end.
 pub fn data_line(bytes: [u8; 256], has_second: bool) -> Text {
     let mut t = Text::new();
-    put_data(&mut t, if has_second { &bytes[104..] } else { &bytes[72..] });
+    put_data(
+        &mut t,
+        if has_second {
+            &bytes[104..]
+        } else {
+            &bytes[72..]
+        },
+    );
     t
 }
 
 // Why no record is made.
 pub fn refusal(why: Refusal) -> Text {
-    Text::of(format_args!(
-        "record: the reset call is refused ({})\n",
-        u32::from(why)
-    ))
+    Text::of(format_args!("record: the reset call is refused ({})\n", u32::from(why)))
 }
 
 // ---- the type
@@ -66,7 +70,10 @@ fn put_digests(t: &mut Text, kind: Option<ResetType>, digests: Digests) {
 
 fn put_unread(t: &mut Text, allowed: &str, has_second: bool) {
     let second = if has_second { " and 72 to 103" } else { "" };
-    write!(t, "allowed  {allowed}; bytes 8 to 39{second} are not looked at\n");
+    write!(
+        t,
+        "allowed  {allowed}; bytes 8 to 39{second} are not looked at\n"
+    );
 }
 
 fn put_allowed(t: &mut Text, digests: Digests) {
@@ -80,7 +87,12 @@ fn put_allowed(t: &mut Text, digests: Digests) {
 
 fn put_basis(t: &mut Text, reset_seed: bool, id: [u8; 32]) {
     if reset_seed {
-        ("CDI      chained to measured_id ", Hex(&id), " (RESET_SEED)\n").show(t);
+        (
+            "CDI      chained to measured_id ",
+            Hex(&id),
+            " (RESET_SEED)\n",
+        )
+            .show(t);
     } else {
         write!(t, "CDI      from the program's digest (no RESET_SEED)\n");
     }
@@ -89,7 +101,12 @@ fn put_basis(t: &mut Text, reset_seed: bool, id: [u8; 32]) {
 // The mask, highest byte first, where it has bits that mean nothing.
 fn put_mask(t: &mut Text, mask: u32) {
     if 4 <= mask {
-        ("mask     0x", Hex(&mask.to_be_bytes()), ": bits 2 to 31 are ignored\n").show(t);
+        (
+            "mask     0x",
+            Hex(&mask.to_be_bytes()),
+            ": bits 2 to 31 are ignored\n",
+        )
+            .show(t);
     }
 }
 

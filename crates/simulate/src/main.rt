@@ -6,10 +6,9 @@
 #![tactic(auto)]
 
 use loader::{Answer, Flash, Refusal, Slot, State};
-use std::array;
-use std::io;
 use std::io::Read;
 use std::ops::ControlFlow;
+use std::{array, io};
 
 // What a head has when it is switched on, besides memory.
 #[derive(Clone, Copy)]

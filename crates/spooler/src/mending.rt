@@ -83,7 +83,10 @@ fn tell(rt: &HostRuntime, bytes: &[u8], report: &[u8]) -> Result<(), Failure> {
 
 // How many blocks have this fate.
 fn count(report: &[u8], fate: Fate) -> usize {
-    report.iter().filter(|entry| **entry == u8::from(fate)).count()
+    report
+        .iter()
+        .filter(|entry| **entry == u8::from(fate))
+        .count()
 }
 
 // A line for each block that is not kept. A lost block is as it was, so a look at it tells its fault.

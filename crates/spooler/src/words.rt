@@ -38,9 +38,7 @@ pub fn lost(place: usize, why: Refusal) -> Text {
 // ---- salvage
 
 pub fn counts(kept: usize, replaced: usize, lost: usize) -> Text {
-    Text::of(format_args!(
-        "kept {kept}, replaced {replaced}, lost {lost}\n"
-    ))
+    Text::of(format_args!("kept {kept}, replaced {replaced}, lost {lost}\n"))
 }
 
 // A block says its place, and not of which program it is.

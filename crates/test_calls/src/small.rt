@@ -41,8 +41,16 @@ fn write_header(rt: &impl Print, c: &[u8; 320]) {
 
 // Bytes 1 and 2 say whether it is chained and whether a user secret is used; UDS, measured_id, digest and user secret stand from byte 8 on.
 fn derive(rt: &impl Print, c: &[u8; 320]) {
-    let measured_id = if c[1] == 0 { None } else { Some(endian::part(c, 40)) };
-    let uss = if c[2] == 0 { None } else { Some(endian::part(c, 104)) };
+    let measured_id = if c[1] == 0 {
+        None
+    } else {
+        Some(endian::part(c, 40))
+    };
+    let uss = if c[2] == 0 {
+        None
+    } else {
+        Some(endian::part(c, 104))
+    };
     let cdi = cdi::derive(endian::part(c, 8), measured_id, endian::part(c, 72), uss);
     image::write(rt, &cdi);
 }
