@@ -42,7 +42,11 @@ fn bytes_in(message: u32, keyed: bool) -> u64
 fn waiting(n: u64) -> usize
     ensures { (64 * earlier n + result ≡ n) × (result ≤ 64) }
 {
-    if n == 0 { 0 } else { ((n - 1) % 64 + 1) as usize }
+    if n == 0 {
+        0
+    } else {
+        ((n - 1) % 64 + 1) as usize
+    }
 }
 
 // How many blocks of n bytes come before the final one.
@@ -57,12 +61,12 @@ fn read_words(b: &[u8]) -> [u32; 16]
     requires { 64 ≤ length b.now }
     ensures { result ≡ words b.now }
 {
-    array::from_fn(|i: usize| -> u32
-        requires { (i < 16) × (64 ≤ length b.now) }
-        ensures { result ≡ word b.entry.now (4 * i) }
-    {
-        word_at(b, 4 * i)
-    })
+    array::from_fn(
+        |i: usize| -> u32
+            requires { (i < 16) × (64 ≤ length b.now) }
+            ensures { result ≡ word b.entry.now (4 * i) }
+        { word_at(b, 4 * i) },
+    )
 }
 
 // Compresses the first n blocks of d, each with the flag last; the first has the counter t. compress is called here and nowhere else, so

@@ -20,4 +20,4 @@ module _ {F : Type 0} {g : Mut F (ℕ × Unit {0}) ℕ} (I : F → Type 0) (s : 
   pub made : {f : F} {ys : List ℕ} {n : ℕ} → I f → IsFromFnResult g f ys n → ys ≡ each n s
   made {f} {ys} {n} h r =
       ext_get_or 0 ys (each n s) (r.long ∙ sym (length_each n s))
-        (λ k b. let c : k < n = omega (arith, r.long) in each_at f ys 0 n h r.each k k (omega arith) c ∙ sym (get_or_each n s 0 k c))
+      (λ k b. let c : k < n = omega (arith, r.long) in each_at f ys 0 n h r.each k k (omega arith) c ∙ sym (get_or_each n s 0 k c))

@@ -160,10 +160,10 @@ pub fn compress(h: [u32; 8], m: &[u32; 16], t: u64, last: bool) -> [u32; 8]
     ensures { result ≡ F h m.now t last }
 {
     let v = rounds(work_vector(h, t, last), m);
-    array::from_fn(|i: usize| -> u32
-        requires { i < 8 }
-        ensures { result ≡ bit_xor (bit_xor (slice_index h i) (slice_index v i)) (slice_index v (i + 8)) }
-    {
-        h[i] ^ v[i] ^ v[i + 8]
-    })
+    array::from_fn(
+        |i: usize| -> u32
+            requires { i < 8 }
+            ensures { result ≡ bit_xor (bit_xor (slice_index h i) (slice_index v i)) (slice_index v (i + 8)) }
+        { h[i] ^ v[i] ^ v[i + 8] },
+    )
 }

@@ -72,7 +72,7 @@ unfolding word
 word_filled l f =
     let p : List ℕ = take 4 (drop f l) in
     let g : (i : ℕ) → i < 4 → get_or (padded 4 p) i 0 ≡ get_or l (f + i) 0 =
-        λ i h. filled_read p (4 - length p) i ∙ get_or-take 4 (drop f l) i 0 h ∙ get_or-drop f l i 0 in
+    λ i h. filled_read p (4 - length p) i ∙ get_or-take 4 (drop f l) i 0 h ∙ get_or-drop f l i 0 in
     rw (g 0 (omega arith), g 1 (omega arith), g 2 (omega arith), g 3 (omega arith), add-zero)
 
 -- zeros are words

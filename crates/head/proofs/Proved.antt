@@ -103,11 +103,12 @@ bare_back (Ok (Started x)) = refl
 
 same_answer : (x y : Tried Answer Refusal) → reported x ≡ reported y
     → (bare_of x ≡ bare_of y) × (given_by cdi_in x ≡ given_by cdi_in y → given_by digest_in x ≡ given_by digest_in y → x ≡ y)
-same_answer x y e =
-    (sym (bare_back x) ∙ ap (λ (r : Report). answer_of r [] []) e ∙ bare_back y,
-      λ c d. sym (answer_back x) ∙ ap (λ (r : Report). answer_of r (given_by cdi_in x) (given_by digest_in x)) e
-        ∙ ap (λ (z : List ℕ). answer_of (reported y) z (given_by digest_in x)) c
-        ∙ ap (λ (z : List ℕ). answer_of (reported y) (given_by cdi_in y) z) d ∙ answer_back y)
+same_answer x y e = (
+  sym (bare_back x) ∙ ap (λ (r : Report). answer_of r [] []) e ∙ bare_back y,
+  λ c d. sym (answer_back x) ∙ ap (λ (r : Report). answer_of r (given_by cdi_in x) (given_by digest_in x)) e
+      ∙ ap (λ (z : List ℕ). answer_of (reported y) z (given_by digest_in x)) c
+      ∙ ap (λ (z : List ℕ). answer_of (reported y) (given_by cdi_in y) z) d ∙ answer_back y,
+)
 
 -- ---- the range
 

@@ -83,11 +83,7 @@ impl From<Incoming> for Frame {
 pub fn loaded(l: Load) -> Progress
     ensures { result ≡ loaded l }
 {
-    let Load {
-        size,
-        flag: _,
-        uss,
-    } = l;
+    let Load { size, flag: _, uss } = l;
     Progress {
         phase: Phase::Loading,
         size,

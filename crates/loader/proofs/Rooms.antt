@@ -55,12 +55,13 @@ module _ (front rest : List ℕ) (long : length front ≡ 129) where
     where
       after : List ℕ
       after = stored_in ram (frame_in s) s.progress.size s.progress.block
+
       go : (t : Bool)
           → cond t (finished_with (blake2s [] (take s.progress.size after) 32) s (front ++ rest) after uds)
           (replying (block_reply s.incoming.header) (between s (next_block s.progress)) (front ++ rest) after uds)
           ≡ behind rest
-            (cond t (finished_with (blake2s [] (take s.progress.size after) 32) s front after uds)
-            (replying (block_reply s.incoming.header) (between s (next_block s.progress)) front after uds))
+          (cond t (finished_with (blake2s [] (take s.progress.size after) 32) s front after uds)
+          (replying (block_reply s.incoming.header) (between s (next_block s.progress)) front after uds))
       go true = finished_behind _ s after uds
       go false = replies_behind _ (is_block _) _ after uds
 

@@ -50,7 +50,12 @@ fn answer_udi(s: State, room: &mut [u8; 129]) -> Acted
     ensures { Replies result (udi_reply s.incoming.header s.config.udi) (between s s.progress) room.old room.new }
 {
     let udi = s.config.udi;
-    answer(s, s.progress, protocol::udi_reply(s.incoming.header, udi), room)
+    answer(
+        s,
+        s.progress,
+        protocol::udi_reply(s.incoming.header, udi),
+        room,
+    )
 }
 
 // A load: one that is not taken changes nothing.

@@ -45,7 +45,15 @@ pub fn by_type(
     } = flash;
     let c = head::config_of(r, udi, built_in, ram.len());
     match record::source(reset_type) {
-        Place::Slot0 => super::flash::boot(c, slot0.bytes, slot1.bytes, false, slot0.size, ram, uds),
+        Place::Slot0 => super::flash::boot(
+            c,
+            slot0.bytes,
+            slot1.bytes,
+            false,
+            slot0.size,
+            ram,
+            uds,
+        ),
         Place::Slot1 => super::flash::boot(c, slot0.bytes, slot1.bytes, true, slot1.size, ram, uds),
         Place::Client => wait(c),
     }

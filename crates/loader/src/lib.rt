@@ -43,12 +43,7 @@ pub fn begin(
 }
 
 // Acts on the frame that is whole: answers it, or starts the program or stops. A refused call changes nothing.
-pub fn act(
-    s: State,
-    room: &mut [u8],
-    ram: &mut [u8],
-    uds: &mut [u32],
-) -> Result<Acted, Refusal>
+pub fn act(s: State, room: &mut [u8], ram: &mut [u8], uds: &mut [u32]) -> Result<Acted, Refusal>
     ensures { outcome result s room.new ram.new uds.new ≡ acted s room.old ram.old uds.old }
 {
     // What is admitted has these lengths.

@@ -12,7 +12,10 @@ pub fn begin(front: [u8; 296], ram: &mut [u8], words: &mut [u32]) -> Result<Step
     ensures { result_of result ram.new words.new ≡ beginning (take 256 front) (drop 288 front) no_flash ram.old words.old }
 {
     let udi = udi_of(front);
-    let empty = Slot { bytes: b"", size: 0 };
+    let empty = Slot {
+        bytes: b"",
+        size: 0,
+    };
     let flash = Flash {
         slot0: empty,
         slot1: empty,

@@ -37,9 +37,7 @@ impl Show for Ending {
         match self.0 {
             Ok(Answer::Continue | Answer::Whole) => "".show(t),
             Ok(Answer::Stopped(why)) => ("F ", u8::from(why), "\n").show(t),
-            Ok(Answer::Started(start)) => {
-                ("S ", start.size, " ", Hex(&start.cdi), "\n").show(t)
-            }
+            Ok(Answer::Started(start)) => { ("S ", start.size, " ", Hex(&start.cdi), "\n").show(t) }
             Err(why) => ("E ", u8::from(why), "\n").show(t),
         }
     }

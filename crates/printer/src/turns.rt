@@ -153,11 +153,13 @@ fn act(s: Session, ram: &mut [u8]) -> Turn
     let mut words = s.words;
     let mut room = [0u8; 129];
     match loader::act(s.state, &mut room, ram, &mut words) {
-        Ok(Acted {
-            answer,
-            reply: n,
-            state,
-        }) => {
+        Ok(
+            Acted {
+                answer,
+                reply: n,
+                state,
+            },
+        ) => {
             let session = Session { state, words, ..s };
             Turn {
                 text: Text::of((Reply { room, n }, Ending(Ok(answer)))),

@@ -49,7 +49,7 @@ returns c =
     let q = request_of a.s in
     ap (behind (drop 129 r))
     (c.perform.ensures ∙ ap (λ (z : List ℕ). performed q a.s z a.ram.now c.in-Some-as_mut_array.uds.now) c.in-Some.ensures.cases.same
-      ∙ ap (λ (z : List ℕ). performed q a.s (take 129 r) a.ram.now z) c.in-Some-as_mut_array.ensures.cases.same)
+    ∙ ap (λ (z : List ℕ). performed q a.s (take 129 r) a.ram.now z) c.in-Some-as_mut_array.ensures.cases.same)
     ∙ sym (performed_behind (take 129 r) (drop 129 r) (length-take-le 129 r f.room_fits) q a.s a.ram.now a.uds.now)
     ∙ ap (λ (z : List ℕ). performed q a.s z a.ram.now a.uds.now) (take-append-drop 129 r)
     ∙ act_admitted_as a.s r a.ram.now a.uds.now c.in_ok-admit_act.ensures

@@ -5,5 +5,6 @@ use Rattle.text.proofs.+put_digits.Goals as goal
 
 pub returns : goal.returns
 returns t c = λ k p l. elim c.if-n-ge10.branch [
-    then-n-ge10 w ↦ rw (c.push.ensures, w.t-is) (one_more c.args.t.now w.put_digits.new.t c.args.n k w.if-n-ge10.true l w.put_digits.ensures)
-    | else-n-ge10 w ↦ rw (c.push.ensures, w.t-is) (one_digit c.args.t.now c.args.n k w.if-n-ge10.false p) ]
+  | then-n-ge10 w ↦ rw (c.push.ensures, w.t-is) (one_more c.args.t.now w.put_digits.new.t c.args.n k w.if-n-ge10.true l w.put_digits.ensures)
+  | else-n-ge10 w ↦ rw (c.push.ensures, w.t-is) (one_digit c.args.t.now c.args.n k w.if-n-ge10.false p)
+]

@@ -15,13 +15,15 @@ overflow_add-result c =
 pub returns-then-endpoint-eq2 : goal.returns-then-endpoint-eq2
 returns-then-endpoint-eq2 c =
     let v = c.if-endpoint-eq2.true in
-    elim c.if-is_good.branch
-    [ then-is_good w ↦ rw (good_at _ (sym c.is_good.ensures ∙ w.if-is_good.true), ← w.endpoint.ensures, sym w.value-is ∙ v, c.body_len.ensures)
-    | else-is_good w ↦ let z = sym v ∙ w.value-is ∙ w.if-is_good.false in impossible cc ]
+    elim c.if-is_good.branch [
+      | then-is_good w ↦ rw (good_at _ (sym c.is_good.ensures ∙ w.if-is_good.true), ← w.endpoint.ensures, sym w.value-is ∙ v, c.body_len.ensures)
+      | else-is_good w ↦ let z = sym v ∙ w.value-is ∙ w.if-is_good.false in impossible cc
+    ]
 
 pub returns-else-endpoint-eq2 : goal.returns-else-endpoint-eq2
 returns-else-endpoint-eq2 c =
     let v = c.if-endpoint-eq2.false in
-    elim c.if-is_good.branch
-    [ then-is_good w ↦ rw (v, good_at _ (sym c.is_good.ensures ∙ w.if-is_good.true), ← w.endpoint.ensures, sym w.value-is ∙ v)
-    | else-is_good w ↦ rw (v, bad_at _ (sym c.is_good.ensures ∙ w.if-is_good.false)) ]
+    elim c.if-is_good.branch [
+      | then-is_good w ↦ rw (v, good_at _ (sym c.is_good.ensures ∙ w.if-is_good.true), ← w.endpoint.ensures, sym w.value-is ∙ v)
+      | else-is_good w ↦ rw (v, bad_at _ (sym c.is_good.ensures ∙ w.if-is_good.false))
+    ]

@@ -11,5 +11,12 @@ unfolding starting
 returns c =
     let a = c.args in
     let cleared = c.clear.ensures ∙ ap (λ (n : ℕ). replicate n 0) c.told-uds in
-    λ ram. rw (c.ended.ensures, c.derive-cdi.ensures, c.then_some-measured_id.ensures, c.then_some-uss.ensures,
-      derived c.secret_bytes-secret.result a.c.measured_id a.digest a.p.uss a.c.chained a.p.uss_used, c.secret_bytes-secret.ensures, cleared)
+    λ ram. rw (
+      c.ended.ensures,
+      c.derive-cdi.ensures,
+      c.then_some-measured_id.ensures,
+      c.then_some-uss.ensures,
+      derived c.secret_bytes-secret.result a.c.measured_id a.digest a.p.uss a.c.chained a.p.uss_used,
+      c.secret_bytes-secret.ensures,
+      cleared,
+    )
