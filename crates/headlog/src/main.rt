@@ -3,7 +3,6 @@
 // hands over the bytes that it reads, in order, and writes each text. What cannot be written is lost: there is nobody to tell.
 #![tactic(auto)]
 
-use printer::Next;
 use std::io::Read;
 
 fn main(rt: HostRuntime) {
@@ -18,11 +17,11 @@ fn main(rt: HostRuntime) {
     }
 }
 
-// One byte and no more, so that a reply is out before the next byte is waited for. A read that fails is an end.
-fn read<F: Read>(from: &mut F) -> Next {
+// One byte and no more, so that a reply is out before the next byte is waited for; none at the end. A read that fails is an end.
+fn read<F: Read>(from: &mut F) -> Option<u8> {
     let mut byte = [0u8; 1];
     match from.read(&mut byte) {
-        Ok(1) => Next::Byte(byte[0]),
-        _ => Next::End,
+        Ok(1) => Some(byte[0]),
+        _ => None,
     }
 }

@@ -9,8 +9,6 @@ use Rattle.text.specs.Text.{text_of}
 use Rattle.printer.specs.Lines.{waiting_line, error_line, end_line}
 use Rattle.printer.specs.Output.{after_begin, after_byte, call_text, is_over, Output, behind}
 use Rattle.printer.specs.declared.turns.Session.{Session}
-use Rattle.printer.specs.declared.turns.Next.{Next}
-use Rattle.printer.specs.declared.turns.Next.TheVariants.{Byte, End}
 use Rattle.printer.specs.declared.turns.Turn.{Turn}
 
 -- the session, unless what a call reports ends it
@@ -51,15 +49,15 @@ waited s = record { text = text_of (waiting_line s.received); session = None }
 abbrev pub is_full : Session → Bool
 is_full s = eqb s.received (2 ^ 64 - 1)
 
--- every other turn
-abbrev pub turned : Session → Next → List ℕ → Turn
-turned s End ram = waited s
-turned s (Byte b) ram = cond (is_full s) (waited s) (turn_of (s.received + 1) (after_byte s.state s.words ram b))
+-- every other turn: of a received byte, or of the end of the input
+abbrev pub turned : Session → Option ℕ → List ℕ → Turn
+turned s None ram = waited s
+turned s (Some b) ram = cond (is_full s) (waited s) (turn_of (s.received + 1) (after_byte s.state s.words ram b))
 
 -- and what RAM then holds
-abbrev pub ram_after : Session → Next → List ℕ → List ℕ
-ram_after s End ram = ram
-ram_after s (Byte b) ram = cond (is_full s) ram (after_byte s.state s.words ram b).ram
+abbrev pub ram_after : Session → Option ℕ → List ℕ → List ℕ
+ram_after s None ram = ram
+ram_after s (Some b) ram = cond (is_full s) ram (after_byte s.state s.words ram b).ram
 
 -- ---- the loop of `headlog`
 
@@ -70,10 +68,10 @@ lines t = take t.text.len t.text.bytes
 -- from a session on, with n bytes read: until there is none, the next byte or the end of the input makes the next turn
 abbrev pub goes : List ℕ → Option Session → List ℕ → ℕ → Output
 goes bytes None ram n = record { printed = []; read = n }
-goes [] (Some s) ram n = record { printed = lines (turned s End ram); read = n }
+goes [] (Some s) ram n = record { printed = lines (turned s None ram); read = n }
 goes (b ∷ bytes) (Some s) ram n =
-    let t = turned s (Byte b) ram in
-    behind (lines t) (goes bytes t.session (ram_after s (Byte b) ram) (n + 1))
+    let t = turned s (Some b) ram in
+    behind (lines t) (goes bytes t.session (ram_after s (Some b) ram) (n + 1))
 
 -- from the turn t on
 abbrev pub loop : Turn → List ℕ → ℕ → List ℕ → Output

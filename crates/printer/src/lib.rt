@@ -6,4 +6,4 @@ mod input;
 mod lines;
 mod turns;
 
-pub use turns::{Next, Session, Turn, advance, open};
+pub use turns::{Session, Turn, advance, open};

@@ -1,10 +1,9 @@
 // A session from byte to byte, and what is printed of it.
-ghost use Rattle.std.specs.Prelude.{◌≡◌};
+ghost use Rattle.std.specs.Prelude.{◌≡◌, Some};
 ghost use Rattle.endian.specs.Lists.{zeros};
 ghost use Rattle.head.specs.Answers.{report_of};
 ghost use Rattle.head.specs.Act.{acted};
 ghost use Rattle.printer.specs.Turns.{turn_of, going, refused_turn, unreplied_turn, begin_turn, opening, turned, ram_after, waited};
-ghost use Rattle.printer.specs.declared.turns.Next.TheVariants as next;
 
 use super::input;
 use super::lines::{Ending, Reply};
@@ -18,13 +17,6 @@ pub struct Session {
     pub words: [u32; 8],
     // How many bytes were received.
     pub received: u64,
-}
-
-// A received byte, or the end of the input.
-#[derive(Clone, Copy)]
-pub enum Next {
-    Byte(u8),
-    End,
 }
 
 // What is to be written now, and the session that the next turn goes on with; None if that is all.
@@ -98,15 +90,15 @@ fn going(session: Session, answer: Answer) -> Option<Session>
     }
 }
 
-// Every other turn, with the RAM that the turn before left. Of a session from `open`, a call is refused only where RAM has another length; it is
+// Every other turn, by the byte that is received, none at the end of the input, and with the RAM that the turn before left. Of a session from `open`, a call is refused only where RAM has another length; it is
 // then printed as `E` and the number.
-pub fn advance(s: Session, next: Next, ram: &mut [u8]) -> Turn
-    ensures turn { result ≡ turned s next ram.old }
-    ensures ram { ram.new ≡ ram_after s next ram.old }
+pub fn advance(s: Session, byte: Option<u8>, ram: &mut [u8]) -> Turn
+    ensures turn { result ≡ turned s byte ram.old }
+    ensures ram { ram.new ≡ ram_after s byte ram.old }
 {
-    match next {
-        Next::End => wait(s),
-        Next::Byte(b) => receive(s, b, ram),
+    match byte {
+        Some(b) => receive(s, b, ram),
+        None => wait(s),
     }
 }
 
@@ -123,8 +115,8 @@ fn wait(s: Session) -> Turn
 // Receives a byte: it is gathered, and a frame that is whole with it is acted on. Nothing says that an input ends, and the count does at
 // 2^64 - 1: there the session ends as if the input did.
 fn receive(s: Session, byte: u8, ram: &mut [u8]) -> Turn
-    ensures turn { result ≡ turned s (next.Byte byte) ram.old }
-    ensures ram { ram.new ≡ ram_after s (next.Byte byte) ram.old }
+    ensures turn { result ≡ turned s (Some byte) ram.old }
+    ensures ram { ram.new ≡ ram_after s (Some byte) ram.old }
 {
     if s.received == u64::MAX {
         return wait(s);

@@ -6,8 +6,6 @@ use borrow.Author.Tests.{eqb-false}
 use Rattle.printer.specs.Output.{is_over, after_begin, after_byte}
 use Rattle.printer.specs.Turns.{opening, begin_turn, turned, waited, is_full, turn_of}
 use Rattle.printer.specs.declared.turns.Session.{Session}
-use Rattle.printer.specs.declared.turns.Next.{Next}
-use Rattle.printer.specs.declared.turns.Next.TheVariants.{Byte, End}
 use Rattle.printer.specs.declared.turns.Turn.{Turn}
 use Rattle.headlog.proofs.main.Invariants.{left, within}
 use Rattle.headlog.proofs.main.Goals as goal
@@ -31,17 +29,17 @@ unfolding opening
 opened front got ram =
     either within (ltb got 296) (record { text = text_of (error_line 1); session = None }) (begin_turn front ram) tt (λ e. begun front ram)
 
-more : (s : Session) (n : Next) (ram : List ℕ) → s.received < 2 ^ 64 → within (turned s n ram).session
-more s End ram h = tt
-more s (Byte b) ram h =
+more : (s : Session) (n : Option ℕ) (ram : List ℕ) → s.received < 2 ^ 64 → within (turned s n ram).session
+more s None ram h = tt
+more s (Some b) ram h =
     let o = after_byte s.state s.words ram b in
     either within (is_full s) (waited s) (turn_of (s.received + 1) o) tt
     (λ e. going within (is_over o.report) (record { state = o.state; words = o.uds; received = s.received + 1 }) tt
     (omega (arith, eqb-false s.received (2 ^ 64 - 1) e)))
 
-fewer : (s : Session) (n : Next) (ram : List ℕ) → s.received < 2 ^ 64 → left (turned s n ram).session < 2 ^ 64 - s.received
-fewer s End ram h = omega arith
-fewer s (Byte b) ram h =
+fewer : (s : Session) (n : Option ℕ) (ram : List ℕ) → s.received < 2 ^ 64 → left (turned s n ram).session < 2 ^ 64 - s.received
+fewer s None ram h = omega arith
+fewer s (Some b) ram h =
     let f : 0 < 2 ^ 64 - s.received = omega arith in
     let g : 2 ^ 64 - (s.received + 1) < 2 ^ 64 - s.received = omega arith in
     let o = after_byte s.state s.words ram b in
