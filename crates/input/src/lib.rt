@@ -118,7 +118,9 @@ pub fn is_given(rt: &impl Env, i: usize) -> bool {
 }
 
 // Puts argument i into the room: the name of a file, or why it is none.
-pub fn name_at<'a>(rt: &impl Env, i: usize, room: &'a mut [u8; 4096]) -> io::Result<&'a [u8]> {
+pub fn name_at<'a>(rt: &impl Env, i: usize, room: &'a mut [u8; 4096]) -> io::Result<&'a [u8]>
+    ensures { IfOk result (λ name. length name.now ≤ 4096) }
+{
     let n = fill(rt, i, room)?;
     Ok(&room[..n])
 }
