@@ -125,12 +125,10 @@ impl Monitor {
             return Err(Refusal::RamSize);
         }
         let r = record::read(record::front(record));
-        let Some(reset_type) = r.reset_type else {
-            return Ok(frames::closed(Verdict::Stopped(Stop::UnknownType)));
-        };
-        match record::source(reset_type) {
-            Place::Slot0 | Place::Slot1 => Err(Refusal::FromFlash),
-            Place::Client => Ok(frames::opened(r, ram_len)),
+        match record::source(r.reset_type) {
+            Some(Place::Slot0 | Place::Slot1) => Err(Refusal::FromFlash),
+            Some(Place::Client) => Ok(frames::opened(r, ram_len)),
+            None => Ok(frames::closed(Verdict::Stopped(Stop::UnknownType))),
         }
     }
 

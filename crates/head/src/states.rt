@@ -131,7 +131,7 @@ pub fn config_of(r: Record, udi: [u8; 8], built_in: [u8; 32], ram_len: usize) ->
         measured_id,
         udi,
         digests: record::digests_of(r, built_in),
-        verify: r.reset_type.is_some_and(record::verifies),
+        verify: record::verifies(r.reset_type),
         chained: r.reset_seed,
     }
 }

@@ -35,17 +35,14 @@ pub fn by_type(
     requires { length ram.old ≤ longest }
     ensures { result_in result ram.new uds.new ≡ by_type (record_of r) udi (lent flash.entry) ram.old uds.old }
 {
-    let Some(reset_type) = r.reset_type else {
-        return super::starting::end(Stop::UnknownType, ram.len());
-    };
     let Flash {
         slot0,
         slot1,
         built_in,
     } = flash;
     let c = head::config_of(r, udi, built_in, ram.len());
-    match record::source(reset_type) {
-        Place::Slot0 => super::flash::boot(
+    match record::source(r.reset_type) {
+        Some(Place::Slot0) => super::flash::boot(
             c,
             slot0.bytes,
             slot1.bytes,
@@ -54,7 +51,8 @@ pub fn by_type(
             ram,
             uds,
         ),
-        Place::Slot1 => super::flash::boot(c, slot0.bytes, slot1.bytes, true, slot1.size, ram, uds),
-        Place::Client => wait(c),
+        Some(Place::Slot1) => super::flash::boot(c, slot0.bytes, slot1.bytes, true, slot1.size, ram, uds),
+        Some(Place::Client) => wait(c),
+        None => super::starting::end(Stop::UnknownType, c.ram_len),
     }
 }

@@ -1,6 +1,7 @@
 -- What each type of a reset asks for: document 01, "Reset record and lent memory", and change requests 3 and 6. A type is its number, or none.
 use Rattle.std.specs.Prelude.{ℕ, Bool, false, cond, ◌&&◌, ◌||◌, List, eqb}
 use Rattle.std.proofs.Math.Option.{Option, none, some}
+use Rattle.std.specs.Prelude as code
 use Rattle.endian.specs.Lists.{zeros, same}
 use Rattle.record.specs.declared.Digests.{Digests}
 use Rattle.record.specs.declared.Place.{Place}
@@ -15,10 +16,11 @@ pub data Source : Type 0 where
   -- the type is unknown
   unknown : Source
 
-abbrev pub source_at : Place → Source
-source_at place.Slot0 = slot0
-source_at place.Slot1 = slot1
-source_at place.Client = client
+abbrev pub source_at : code.Option Place → Source
+source_at (code.Some place.Slot0) = slot0
+source_at (code.Some place.Slot1) = slot1
+source_at (code.Some place.Client) = client
+source_at code.None = unknown
 
 abbrev pub is_type : Option ℕ → ℕ → Bool
 is_type (some t) n = eqb t n

@@ -114,22 +114,23 @@ pub fn read(bytes: [u8; 256]) -> Record
     }
 }
 
-// Where the program of a type comes from.
-pub fn source(t: ResetType) -> Place
-    ensures { source_at result ≡ source_of (type_number (Some t)) }
+// Where the program of a type comes from; none for a number that stands for no type.
+pub fn source(t: Option<ResetType>) -> Option<Place>
+    ensures { source_at result ≡ source_of (type_number t) }
 {
-    match t {
+    let place = match t? {
         ResetType::Flash0 | ResetType::Flash0Ver => Place::Slot0,
         ResetType::Flash1 | ResetType::Flash1Ver => Place::Slot1,
         ResetType::Client | ResetType::ClientVer => Place::Client,
-    }
+    };
+    Some(place)
 }
 
 // Whether the program of a type must have an allowed digest.
-pub fn verifies(t: ResetType) -> bool
-    ensures { result ≡ verifies (type_number (Some t)) }
+pub fn verifies(t: Option<ResetType>) -> bool
+    ensures { result ≡ verifies (type_number t) }
 {
-    !matches!(t, ResetType::Flash1 | ResetType::Client)
+    !matches!(t, None | Some(ResetType::Flash1 | ResetType::Client))
 }
 
 // The digests that are allowed: type 0's only one is built in, the others have what the record says.

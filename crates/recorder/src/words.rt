@@ -63,7 +63,7 @@ fn put_digests(t: &mut Text, kind: Option<ResetType>, digests: Digests) {
     match kind {
         None => put_unread(t, "no program", digests.has_second),
         Some(ResetType::Flash0) => put_unread(t, "the built-in digest", digests.has_second),
-        Some(kind) if record::verifies(kind) => put_allowed(t, digests),
+        kind if record::verifies(kind) => put_allowed(t, digests),
         Some(_) => put_unread(t, "any digest", digests.has_second),
     }
 }

@@ -2,11 +2,10 @@
 use mathlib.Core.Path.{◌≡◌, sym, ap, ◌∙◌}
 use mathlib.Core.Logic.{⊎_elim}
 use borrow.Author.Tests.{eq-eqb, ne_eqb}
-use Rattle.std.specs.Prelude.{Option}
-use Rattle.record.specs.Record.{type_number, record_of, record_at}
-use Rattle.record.specs.Types.{unknown, source_at, source_of}
+use Rattle.std.specs.Prelude.{Option, Some}
+use Rattle.record.specs.Record.{record_of, record_at}
+use Rattle.record.specs.Types.{unknown, source_at}
 use Rattle.record.specs.declared.Place.{Place}
-use Rattle.record.specs.declared.ResetType.{ResetType}
 use Rattle.record.proofs.Fields.{whole_front}
 use Rattle.diagnosis.specs.Monitor.{by_source, begun}
 use Rattle.diagnosis.proofs.Steps.{begun_as}
@@ -20,31 +19,30 @@ pub returns-then-not-length_ok : goal.returns-then-not-length_ok
 unfolding begun
 returns-then-not-length_ok c = rw (eq-eqb _ _ c.if-record-ne256.false, ← c.length_ok.ensures, c.if-not-length_ok.true)
 
-pub returns-in_default : goal.returns-in_default
-returns-in_default c =
+pub returns-in-None : goal.returns-in-None
+returns-in-None c =
     let a = c.args in
     let n = c.if-record-ne256.false in
     c.closed.ensures
     ∙ begun_as a.«record».now a.ram_len c.read-r.result unknown n (sym c.length_ok.ensures ∙ c.if-not-length_ok.false)
     (c.read-r.ensures ∙ ap record_at (c.front.ensures ∙ whole_front a.«record».now n))
-    (ap (λ (t : Option ResetType). source_of (type_number t)) (sym c.in_default.is))
+    (ap source_at (sym c.in-None.is) ∙ c.source.ensures)
 
-pub returns-in-Slot0 : goal.returns-in-Slot0
-returns-in-Slot0 c =
+pub returns-in-Some-Slot0 : goal.returns-in-Some-Slot0
+returns-in-Some-Slot0 c =
     let a = c.args in
     let n = c.if-record-ne256.false in
-    let from : (k : Place) → c.source.result ≡ k → by_source (source_at k) (record_of c.read-r.result) a.ram_len ≡ begun a.«record».now a.ram_len =
+    let from : (k : Option Place) → c.source.result ≡ k → by_source (source_at k) (record_of c.read-r.result) a.ram_len ≡ begun a.«record».now a.ram_len =
     λ k e. begun_as a.«record».now a.ram_len c.read-r.result (source_at k) n (sym c.length_ok.ensures ∙ c.if-not-length_ok.false)
     (c.read-r.ensures ∙ ap record_at (c.front.ensures ∙ whole_front a.«record».now n))
-    (ap source_at (sym e) ∙ c.source.ensures ∙ ap (λ (t : Option ResetType). source_of (type_number t)) (sym c.in-Some.is)) in
-    ⊎_elim (λ e. from _ e) (λ e. from _ e) c.in-Slot0.is
+    (ap source_at (sym e) ∙ c.source.ensures) in
+    ⊎_elim (λ e. from _ (c.in-Some-Slot0.is ∙ ap Some e)) (λ e. from _ (c.in-Some-Slot0.is ∙ ap Some e)) c.in-Some-Slot0.field-0-is
 
-pub returns-in-Client : goal.returns-in-Client
-returns-in-Client c =
+pub returns-in-Some-Client : goal.returns-in-Some-Client
+returns-in-Some-Client c =
     let a = c.args in
     let n = c.if-record-ne256.false in
     c.opened.ensures
     ∙ begun_as a.«record».now a.ram_len c.read-r.result _ n (sym c.length_ok.ensures ∙ c.if-not-length_ok.false)
     (c.read-r.ensures ∙ ap record_at (c.front.ensures ∙ whole_front a.«record».now n))
-    (ap source_at (sym c.in-Client.is) ∙ c.source.ensures
-    ∙ ap (λ (t : Option ResetType). source_of (type_number t)) (sym c.in-Some.is))
+    (ap source_at (sym (c.in-Some-Client.is ∙ ap Some c.in-Some-Client.field-0-is)) ∙ c.source.ensures)

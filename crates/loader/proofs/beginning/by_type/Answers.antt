@@ -1,33 +1,36 @@
 -- Where the program comes from says which case of the definition it is.
 use mathlib.Core.Path.{sym, ap, ◌∙◌}
-use Rattle.std.specs.Prelude.{Option}
-use Rattle.record.specs.Record.{type_number, record_of}
-use Rattle.record.specs.Types.{slot0, slot1, client, source_of}
-use Rattle.record.specs.declared.ResetType.{ResetType}
+use Rattle.std.specs.Prelude.{Some}
+use Rattle.record.specs.Record.{record_of}
+use Rattle.record.specs.Types.{source_at, slot0, slot1, client, unknown}
 use Rattle.loader.specs.Steps.{lent}
 use Rattle.loader.proofs.Slots.{by_source_is}
 use Rattle.loader.proofs.beginning.by_type.Goals as goal
 
-pub returns-in_default : goal.returns-in_default
-returns-in_default c = rw c.in_default.is (c.end.ensures c.args.ram.now c.args.uds.now)
-
-pub returns-in-Slot0 : goal.returns-in-Slot0
-returns-in-Slot0 c =
+pub returns-in-Some-Slot0 : goal.returns-in-Some-Slot0
+returns-in-Some-Slot0 c =
     let a = c.args in
     c.boot.ensures
     ∙ by_source_is (record_of a.r) a.udi (lent a.flash) a.ram.now a.uds.now slot0 c.config_of-c.result
-    (c.in-Slot0.ensures ∙ ap (λ (t : Option ResetType). source_of (type_number t)) (sym c.in-Some.is)) c.config_of-c.ensures
+    (ap source_at (sym (c.in-Some-Slot0.is ∙ ap Some c.in-Some-Slot0.field-0-is)) ∙ c.source.ensures) c.config_of-c.ensures
 
-pub returns-in-Slot1 : goal.returns-in-Slot1
-returns-in-Slot1 c =
+pub returns-in-Some-Slot1 : goal.returns-in-Some-Slot1
+returns-in-Some-Slot1 c =
     let a = c.args in
-    c.boot-in-Slot1.ensures
+    c.boot-in-Some-Slot1.ensures
     ∙ by_source_is (record_of a.r) a.udi (lent a.flash) a.ram.now a.uds.now slot1 c.config_of-c.result
-    (c.in-Slot1.ensures ∙ ap (λ (t : Option ResetType). source_of (type_number t)) (sym c.in-Some.is)) c.config_of-c.ensures
+    (ap source_at (sym (c.in-Some-Slot1.is ∙ ap Some c.in-Some-Slot1.field-0-is)) ∙ c.source.ensures) c.config_of-c.ensures
 
-pub returns-in-Client : goal.returns-in-Client
-returns-in-Client c =
+pub returns-in-Some-Client : goal.returns-in-Some-Client
+returns-in-Some-Client c =
     let a = c.args in
     c.wait.ensures a.ram.now a.uds.now
     ∙ by_source_is (record_of a.r) a.udi (lent a.flash) a.ram.now a.uds.now client c.config_of-c.result
-    (c.in-Client.ensures ∙ ap (λ (t : Option ResetType). source_of (type_number t)) (sym c.in-Some.is)) c.config_of-c.ensures
+    (ap source_at (sym (c.in-Some-Client.is ∙ ap Some c.in-Some-Client.field-0-is)) ∙ c.source.ensures) c.config_of-c.ensures
+
+pub returns-in-None : goal.returns-in-None
+returns-in-None c =
+    let a = c.args in
+    c.end.ensures a.ram.now a.uds.now
+    ∙ by_source_is (record_of a.r) a.udi (lent a.flash) a.ram.now a.uds.now unknown c.config_of-c.result
+    (ap source_at (sym c.in-None.is) ∙ c.source.ensures) c.config_of-c.ensures
