@@ -126,7 +126,8 @@ impl Monitor {
         }
         let r = record::read(record::front(record));
         match record::source(r.reset_type) {
-            Some(Place::Slot0 | Place::Slot1) => Err(Refusal::FromFlash),
+            Some(Place::Slot0) => Err(Refusal::FromFlash),
+            Some(Place::Slot1) => Err(Refusal::FromFlash),
             Some(Place::Client) => Ok(frames::opened(r, ram_len)),
             None => Ok(frames::closed(Verdict::Stopped(Stop::UnknownType))),
         }

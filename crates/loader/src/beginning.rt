@@ -51,7 +51,15 @@ pub fn by_type(
             ram,
             uds,
         ),
-        Some(Place::Slot1) => super::flash::boot(c, slot0.bytes, slot1.bytes, true, slot1.size, ram, uds),
+        Some(Place::Slot1) => super::flash::boot(
+            c,
+            slot0.bytes,
+            slot1.bytes,
+            true,
+            slot1.size,
+            ram,
+            uds,
+        ),
         Some(Place::Client) => wait(c),
         None => super::starting::end(Stop::UnknownType, c.ram_len),
     }

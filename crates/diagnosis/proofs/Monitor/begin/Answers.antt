@@ -32,11 +32,17 @@ pub returns-in-Some-Slot0 : goal.returns-in-Some-Slot0
 returns-in-Some-Slot0 c =
     let a = c.args in
     let n = c.if-record-ne256.false in
-    let from : (k : Option Place) → c.source.result ≡ k → by_source (source_at k) (record_of c.read-r.result) a.ram_len ≡ begun a.«record».now a.ram_len =
-    λ k e. begun_as a.«record».now a.ram_len c.read-r.result (source_at k) n (sym c.length_ok.ensures ∙ c.if-not-length_ok.false)
+    begun_as a.«record».now a.ram_len c.read-r.result _ n (sym c.length_ok.ensures ∙ c.if-not-length_ok.false)
     (c.read-r.ensures ∙ ap record_at (c.front.ensures ∙ whole_front a.«record».now n))
-    (ap source_at (sym e) ∙ c.source.ensures) in
-    ⊎_elim (λ e. from _ (c.in-Some-Slot0.is ∙ ap Some e)) (λ e. from _ (c.in-Some-Slot0.is ∙ ap Some e)) c.in-Some-Slot0.field-0-is
+    (ap source_at (sym (c.in-Some-Slot0.is ∙ ap Some c.in-Some-Slot0.field-0-is)) ∙ c.source.ensures)
+
+pub returns-in-Some-Slot1 : goal.returns-in-Some-Slot1
+returns-in-Some-Slot1 c =
+    let a = c.args in
+    let n = c.if-record-ne256.false in
+    begun_as a.«record».now a.ram_len c.read-r.result _ n (sym c.length_ok.ensures ∙ c.if-not-length_ok.false)
+    (c.read-r.ensures ∙ ap record_at (c.front.ensures ∙ whole_front a.«record».now n))
+    (ap source_at (sym (c.in-Some-Slot1.is ∙ ap Some c.in-Some-Slot1.field-0-is)) ∙ c.source.ensures)
 
 pub returns-in-Some-Client : goal.returns-in-Some-Client
 returns-in-Some-Client c =
