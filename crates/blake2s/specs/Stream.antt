@@ -60,7 +60,7 @@ in_range c = not (bad_size c.size)
 unfoldable pub begin_number : ℕ → ℕ → ℕ
 begin_number kk nn = hash_number kk 0 nn
 
--- the context of a refused begin: out of range, so that no later call takes it
+-- no hash: a context out of range, so that no call takes it. A refused begin gives none; the definition has this one
 unfoldable pub refused_context : Context
 refused_context = record { h = zeros 8; block = zeros 64; message = 0; keyed = false; size = 0 }
 

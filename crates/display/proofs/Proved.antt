@@ -11,7 +11,7 @@ use Rattle.protocol.specs.Commands.{blocks_for}
 use Rattle.std.specs.Prelude.{Result, Ok, Err}
 use Rattle.text.specs.Text.{ascii, hex_of, decimal_of}
 use Rattle.text.proofs.Proved.{texts}
-use Rattle.head.specs.Answers.{refusal_number, stop_number}
+use Rattle.head.specs.Answers.{refusal_number, stop_number, cdi_given}
 use Rattle.head.specs.declared.Progress.{Progress}
 use Rattle.head.specs.declared.Refusal.{Refusal}
 use Rattle.head.specs.declared.Stop.{Stop}
@@ -20,7 +20,7 @@ use Rattle.head.specs.declared.Answer.{Answer}
 use Rattle.head.specs.declared.Answer.TheVariants.{Continue, Whole, Stopped, Started}
 use Rattle.display.specs.Shown.{loading_line, block_text, all_blocks, start_line, words_of, stop_line, refusal_line}
 use Rattle.display.specs.Shown.{begin_text, progress_text, before_stop, received_text}
-use Rattle.display.specs.Theorems.{cdi_of, Display}
+use Rattle.display.specs.Theorems.{Display}
 
 same_progress : (terminal : Bool) (p : Progress) → received_text terminal p (Ok Continue) p ≡ []
 same_progress terminal p = rw (eq-eqb p.size p.size refl, eq-eqb p.block p.block refl)
@@ -90,14 +90,14 @@ before_long terminal p s = go (eqb (stop_number s) 25) terminal (eqb p.block 0)
     go false true false = omega arith
     go false false b = omega arith
 
-begin_fits : (a : Result Answer Refusal) → length (cdi_of a) ≡ 32 → length (begin_text a) ≤ 512
+begin_fits : (a : Result Answer Refusal) → length (cdi_given a) ≡ 32 → length (begin_text a) ≤ 512
 begin_fits (Ok Continue) h = omega arith
 begin_fits (Ok Whole) h = omega arith
 begin_fits (Ok (Stopped s)) h = omega (arith, stop_long s)
 begin_fits (Ok (Started x)) h = omega (arith, start_long x.size x.cdi h)
 begin_fits (Err r) h = omega (arith, refusal_long r)
 
-fits : (terminal : Bool) (p : Progress) (a : Result Answer Refusal) (q : Progress) → length (cdi_of a) ≡ 32
+fits : (terminal : Bool) (p : Progress) (a : Result Answer Refusal) (q : Progress) → length (cdi_given a) ≡ 32
     → length (received_text terminal p a q) ≤ 512
 fits terminal p (Ok Continue) q h = omega (arith, progress_long terminal p q)
 fits terminal p (Ok Whole) q h = omega arith

@@ -2,7 +2,7 @@
 use Rattle.std.specs.Prelude.{ℕ, ◌≤◌, ◌≡◌, Bool, true, false, List, [], ◌++◌, length, Result, Ok, Err}
 use Rattle.endian.specs.Lists.{each, zeros}
 use Rattle.text.specs.Text.{ascii}
-use Rattle.head.specs.Answers.{cdi_in}
+use Rattle.head.specs.Answers.{cdi_given}
 use Rattle.head.specs.Begin.{waiting}
 use Rattle.head.specs.declared.Phase.TheVariants.{Loading}
 use Rattle.head.specs.declared.Progress.{Progress}
@@ -26,11 +26,6 @@ start_with digest = Started (record { address = 0x40000000; size = 131072; cdi =
 
 abbrev pub start_of : List ℕ
 start_of = ascii "started, 131072 bytes, CDI 000102030405060708090a0b0c0d0e0f101112131415161718191a1b1c1d1e1f\n"
-
--- the CDI that is shown
-abbrev pub cdi_of : Result Answer Refusal → List ℕ
-cdi_of (Ok a) = cdi_in a
-cdi_of (Err r) = zeros 32
 
 pub record Display : Type 0 where
   -- a session as it is shown on a terminal: after its last block it has started
@@ -64,6 +59,6 @@ pub record Display : Type 0 where
   pub stop_within : (q : Progress) → received_text true (loading_at 3) (Ok (Stopped Command)) q
       ≡ ascii "\nstopped 23: the command is not allowed now, or unknown\n"
   -- every text fits the 512 bytes of a `Text`, so none is cut
-  pub begin_fits : (a : Result Answer Refusal) → length (cdi_of a) ≡ 32 → length (begin_text a) ≤ 512
-  pub fits : (terminal : Bool) (p : Progress) (a : Result Answer Refusal) (q : Progress) → length (cdi_of a) ≡ 32
+  pub begin_fits : (a : Result Answer Refusal) → length (cdi_given a) ≡ 32 → length (begin_text a) ≤ 512
+  pub fits : (terminal : Bool) (p : Progress) (a : Result Answer Refusal) (q : Progress) → length (cdi_given a) ≡ 32
       → length (received_text terminal p a q) ≤ 512

@@ -82,6 +82,11 @@ digest_in Whole = zeros 32
 digest_in (Stopped s) = zeros 32
 digest_in (Started x) = x.digest
 
+-- the CDI that a call gives: zeros where it is refused, too
+abbrev pub cdi_given : Tried Answer Refusal → List ℕ
+cdi_given (Ok a) = cdi_in a
+cdi_given (Err r) = zeros 32
+
 -- all that gathering a byte settles: the report and the next state
 pub record Gathering : Type 0 where
   pub report : Report

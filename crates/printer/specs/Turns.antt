@@ -1,6 +1,6 @@
 -- The output turn by turn: what the promises of `open` and `advance` cite. That the turns fold to the output of specs/Output.antt is `folds` in
 -- specs/Theorems.antt.
-use Rattle.std.specs.Prelude.{ℕ, ◌+◌, ◌-◌, ◌^◌, Bool, cond, Option, None, Some, Result, Ok, Err, List, [], ◌∷◌, eqb, ltb, length, take, drop}
+use Rattle.std.specs.Prelude.{ℕ, ◌+◌, ◌-◌, ◌^◌, Bool, cond, Option, None, Some, List, [], ◌∷◌, eqb, ltb, length, take, drop}
 use Rattle.endian.specs.Lists.{zeros, padded}
 use Rattle.head.specs.Answers.{Report, Outcome, refusal_number, report_of, cdi_in}
 use Rattle.head.specs.declared.Refusal.{Refusal}
@@ -19,11 +19,6 @@ going r s = cond (is_over r) None (Some s)
 abbrev pub turn_of : ℕ → Outcome → Turn
 turn_of n o =
     record { text = text_of (call_text o); session = going o.report (record { state = o.state; words = o.uds; received = n }) }
-
--- the CDI that an answer has
-abbrev pub cdi_of : Result Answer Refusal → List ℕ
-cdi_of (Ok a) = cdi_in a
-cdi_of (Err r) = zeros 32
 
 -- the turn of a call that was refused, and of one without a reply
 abbrev pub refused_turn : Refusal → Turn

@@ -1,8 +1,7 @@
 // The lines that are printed: document 01, "Session printer". Each has its end of line.
-ghost use Rattle.head.specs.Answers.{reported};
+ghost use Rattle.head.specs.Answers.{reported, cdi_given};
 ghost use Rattle.printer.specs.Lines.{end_line};
 ghost use Rattle.printer.specs.Output.{reply_text};
-ghost use Rattle.printer.specs.Turns.{cdi_of};
 
 use loader::{Answer, Refusal};
 use text::{Hex, Show, Text};
@@ -31,7 +30,7 @@ impl Show for Reply {
 pub struct Ending(pub Result<Answer, Refusal>);
 
 impl Show for Ending {
-    ghost words = { λ e. end_line (reported e.0) (cdi_of e.0) };
+    ghost words = { λ e. end_line (reported e.0) (cdi_given e.0) };
 
     fn show(&self, t: &mut Text) {
         match self.0 {
