@@ -11,7 +11,7 @@ use compression::{IV, compress};
 use endian::word_at;
 use std::array;
 
-// The first state, with the lengths of the key and of the hash in it.
+// The first state, with the lengths of the key and of the hash in it. Here and below key and hash have at most 32 bytes: begin refuses more.
 fn first_state(kk: usize, nn: usize) -> [u32; 8]
     requires { (kk ≤ 32) × (nn ≤ 32) }
     ensures { result ≡ initial kk nn }

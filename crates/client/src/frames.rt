@@ -14,7 +14,7 @@ fn header(id: u8) -> u8
     framing::write_header(id, 2, 128, Status::Good).unwrap_or(0)
 }
 
-// The body of the load of a program of this size.
+// The body of the load of a program of this size. 0x03, and 0x05 of a block, stand as in document 01's tables.
 #[tactic(auto, unfolding(crate::specs::Frames::load_body))]
 fn load_body(size: u32, secret: Option<[u8; 32]>) -> [u8; 128]
     ensures { result ≡ load_body size (secret_in secret) }

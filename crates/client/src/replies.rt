@@ -29,6 +29,7 @@ impl Kind {
         }
     }
 
+    // Codes and lengths stand here as in document 01's tables.
     fn code(self) -> u8
         ensures { result ≡ (expected_of self).code }
     {

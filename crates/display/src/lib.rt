@@ -72,16 +72,14 @@ fn progress_text(terminal: bool, before: Progress, after: Progress) -> Text
     ensures { result ≡ text_of (progress_text terminal before after) }
 {
     if before.size != after.size {
-        let size = after.size;
-        return Text::of(format_args!("loading {size} bytes\n"));
+        return Text::of(format_args!("loading {} bytes\n", after.size));
     }
     if before.block == after.block {
         return Text::new();
     }
     if terminal {
-        let block = after.block;
         let blocks = protocol::blocks_for(after.size);
-        return Text::of(format_args!("\rblock {block} of {blocks}"));
+        return Text::of(format_args!("\rblock {} of {blocks}", after.block));
     }
     Text::new()
 }
@@ -118,11 +116,13 @@ impl Show for BeforeStop {
     ghost words = { λ b. before_stop b.terminal b.before b.why };
 
     fn show(&self, t: &mut Text) {
-        let terminal = self.terminal;
-        if u8::from(self.why) == 25 {
-            let size = self.before.size;
-            AllBlocks { terminal, size }.show(t)
-        } else if terminal && self.before.block != 0 {
+        if self.why == Stop::Digest {
+            AllBlocks {
+                terminal: self.terminal,
+                size: self.before.size,
+            }
+            .show(t)
+        } else if self.terminal && self.before.block != 0 {
             "\n".show(t)
         } else {
             "".show(t)
@@ -139,9 +139,7 @@ impl Show for Stopped {
     ghost words = { λ s. stop_line s.0 };
 
     fn show(&self, t: &mut Text) {
-        let number = u8::from(self.0);
-        let words = Words(self.0);
-        ("stopped ", number, ": ", words, "\n").show(t)
+        ("stopped ", u8::from(self.0), ": ", Words(self.0), "\n").show(t)
     }
 }
 

@@ -33,7 +33,7 @@ pub fn part<const N: usize>(bytes: &[u8], from: usize) -> [u8; N]
     p
 }
 
-// Byte i of a word; 0 from byte 4 on.
+// Byte i of a word; 0 from byte 4 on. By a shift, which the check knows as the definition's division; of `to_le_bytes` it does not find it.
 pub fn byte(n: u32, i: usize) -> u8
     ensures { result ≡ byte_of n i }
 {

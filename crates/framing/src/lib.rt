@@ -34,7 +34,7 @@ pub struct Header {
     pub len: u8,
 }
 
-// What the header of a reply says; bit 2 is the status.
+// What the header of a reply says; bit 2 is the status. No Header within: the specs read each of the two by its own fields.
 #[derive(Clone, Copy, Debug, PartialEq, Eq)]
 pub struct ReplyHeader {
     pub id: u8,

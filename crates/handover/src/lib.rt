@@ -30,7 +30,7 @@ impl From<Refusal> for u32 {
     }
 }
 
-// What the program asks for.
+// What the program asks for. Type and mask as they came: refusal 44 needs the type's number, and the record keeps every bit of the mask.
 #[derive(Clone, Copy)]
 pub struct Next<'a> {
     pub next_type: u32,

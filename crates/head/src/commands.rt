@@ -67,9 +67,7 @@ pub fn decide(s: State) -> Result<Action, Stop>
 impl From<Incoming> for Frame {
     ghost from_gives = { λ i f. f ≡ frame_of i };
 
-    fn from(i: Incoming) -> Frame
-        ensures { result ≡ frame_of i }
-    {
+    fn from(i: Incoming) -> Frame {
         let Incoming {
             header,
             got: _,

@@ -48,7 +48,7 @@ pub struct Config {
     pub udi: [u8; 8],
     // Behind the other arrays: its size is odd, and what comes after it does not lie on a word.
     pub digests: Digests,
-    // Whether the program must have one of these digests.
+    // Whether the program must have one of these digests. Kept as a flag, as `chained` is.
     pub verify: bool,
     // Whether the measurement is measured_id (RESET_SEED), and not the program's digest. Kept as a flag: C's state has the bytes either way.
     pub chained: bool,
@@ -144,7 +144,7 @@ pub struct Step {
 #[derive(Clone, Copy)]
 pub struct Acted {
     pub answer: Answer,
-    // How many bytes at the front of the reply room are a reply: 0 for none.
+    // How many bytes at the front of the reply room are a reply. A count, so no Option: 0 bytes are no reply.
     pub reply: usize,
     pub state: State,
 }
@@ -162,9 +162,7 @@ pub enum Action {
 impl From<Refusal> for u8 {
     ghost from_gives = { λ r n. n ≡ refusal_number r };
 
-    fn from(r: Refusal) -> u8
-        ensures { result ≡ refusal_number r }
-    {
+    fn from(r: Refusal) -> u8 {
         match r {
             Refusal::StateRange => 1,
             Refusal::Ended => 2,
@@ -182,9 +180,7 @@ impl From<Refusal> for u8 {
 impl From<Stop> for u8 {
     ghost from_gives = { λ s n. n ≡ stop_number s };
 
-    fn from(s: Stop) -> u8
-        ensures { result ≡ stop_number s }
-    {
+    fn from(s: Stop) -> u8 {
         match s {
             Stop::UnknownType => 20,
             Stop::HeaderBit => 22,

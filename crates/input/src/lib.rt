@@ -160,10 +160,7 @@ pub fn run<R: Files, E: Into<u32>, F: FnOnce(&R) -> Result<(), E>>(rt: &R, progr
     requires { F.IsAlwaysCallable program }
 {
     let mut place = open_number(rt);
-    let number = match program(rt) {
-        Ok(()) => 0,
-        Err(why) => why.into(),
-    };
+    let number = program(rt).err().map_or(0, E::into);
     give_number(&mut place, number);
 }
 

@@ -16,7 +16,8 @@ pub struct Frame {
     pub body: [u8; 128],
 }
 
-// What a load says: the program's size, the user secret's flag and the user secret (USS).
+// What a load says: the program's size, the user secret's flag and the user secret (USS). The flag's byte, and no Option: specs/Commands
+// speaks of it (uses_uss, good_load).
 #[derive(Clone, Copy)]
 pub struct Load {
     pub size: u32,
@@ -24,7 +25,7 @@ pub struct Load {
     pub uss: [u8; 32],
 }
 
-// A reply: its header, the length of its body, and the body, filled up with zeros.
+// A reply: its header, the length of its body, and the body, filled up with zeros. An array in place: a library has no heap (document 01).
 #[derive(Clone, Copy)]
 pub struct Reply {
     pub header: u8,
@@ -69,7 +70,7 @@ pub fn uses_uss(l: Load) -> bool
 pub fn blocks_for(size: u32) -> usize
     ensures { result ≡ blocks_for size }
 {
-    (size as usize + 126) / 127
+    (size as usize).div_ceil(127)
 }
 
 // Where in a program a block's bytes stand.

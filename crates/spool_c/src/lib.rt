@@ -13,10 +13,7 @@ use spool::Refusal;
 fn number(settled: Result<(), Refusal>) -> u32
     ensures { result ≡ number_of settled }
 {
-    match settled {
-        Ok(()) => 0,
-        Err(refusal) => u32::from(refusal),
-    }
+    settled.err().map_or(0, u32::from)
 }
 
 // The same where there is a count, which is written where the call was accepted.

@@ -76,9 +76,5 @@ pub fn refusal(bytes: &[u8]) -> Text
 fn is_length(answer: Result<(), Refusal>) -> bool
     ensures { result ≡ eqb (number_of answer) 50 }
 {
-    match answer {
-        Err(Refusal::SpoolLength) => true,
-        Err(Refusal::Block(Fault::Check | Fault::Number | Fault::Count)) => false,
-        Ok(()) | Err(Refusal::ProgramLength | Refusal::RoomLength) => false,
-    }
+    matches!(answer, Err(Refusal::SpoolLength))
 }
