@@ -1,5 +1,6 @@
 // What a command says on standard error of what failed. Where that cannot be written there is nobody to tell.
-ghost use Rattle.std.specs.Prelude.{◌≤◌, length, IfOk};
+ghost use Rattle.std.specs.Prelude.{◌≡◌, ◌≤◌, length, IfOk};
+ghost use Rattle.input.specs.Exits.{exit_number};
 
 use super::zeros;
 use std::io;
@@ -26,6 +27,8 @@ pub enum Failure {
 
 // The exit status.
 impl From<Failure> for u32 {
+    ghost from_gives = { λ why n. n ≡ exit_number why };
+
     fn from(why: Failure) -> u32 {
         match why {
             Failure::Output => 1,
@@ -45,6 +48,8 @@ impl From<Failure> for Undone {
 }
 
 impl From<Undone> for u32 {
+    ghost from_gives = { λ _ n. n ≡ 1 };
+
     fn from(_why: Undone) -> u32 {
         1
     }
