@@ -12,8 +12,8 @@ use std::ops::ControlFlow;
 use text::Text;
 
 const COMMAND: Command = Command {
-    name: b"diagnose",
-    unreadable: b"cannot be read: ",
+    name: "diagnose",
+    unreadable: "cannot be read: ",
 };
 
 fn main(rt: HostRuntime) {
@@ -23,8 +23,8 @@ fn main(rt: HostRuntime) {
 // The arguments are the names of the record and of the capture, and the RAM's length.
 fn run(rt: &HostRuntime) -> Result<(), Failure> {
     let mut record = [0u8; 257];
-    let n = COMMAND.read(rt, 1, &mut record)?;
-    let begun = match Monitor::begin(&record[..n], input::number_at(rt, 3) as usize) {
+    let record = COMMAND.read(rt, 1, &mut record)?;
+    let begun = match Monitor::begin(record, input::number_at(rt, 3) as usize) {
         Ok(monitor) => monitor,
         Err(why) => return Err(COMMAND.refuse_at(rt, 1, words::refusal(why))),
     };
@@ -53,26 +53,19 @@ fn hear_file<F: Read>(
     begun: Monitor,
 ) -> Result<Monitor, Failure> {
     let mut monitor = begun;
-    if !is_open(monitor) {
+    if monitor.verdict != Verdict::Open {
         return Ok(monitor);
     }
     let read = input::read_parts(file, |part| match monitor.hear(part) {
-        Ok(()) if is_open(monitor) => ControlFlow::Continue(()),
+        Ok(()) if monitor.verdict == Verdict::Open => ControlFlow::Continue(()),
         heard => ControlFlow::Break(heard),
     });
     match read {
         Err(why) => Err(COMMAND.fail(rt, name, why)),
-        Ok(ControlFlow::Break(Err(TooLong))) => Err(COMMAND.refuse(rt, name, too_long())),
+        Ok(ControlFlow::Break(Err(TooLong))) => {
+            let why = Text::of("it has more than 18446744073709551615 bytes");
+            Err(COMMAND.refuse(rt, name, why))
+        }
         Ok(_) => Ok(monitor),
     }
-}
-
-// Whether the head goes on.
-fn is_open(monitor: Monitor) -> bool {
-    matches!(monitor.verdict, Verdict::Open)
-}
-
-// Of a capture with so many bytes that they cannot be counted.
-fn too_long() -> Text {
-    Text::of("it has more than 18446744073709551615 bytes")
 }

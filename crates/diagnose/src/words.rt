@@ -1,4 +1,5 @@
 // The words of a diagnosis: the reason, what to look at, and where the last byte that was read stands.
+// No contract speaks of a program's words, so functions that write are plainer here than structs with `Show`.
 use diagnosis::{Diagnosis, Finding, Monitor, Position, Refusal};
 use display::Words;
 use head::Stop;
@@ -13,7 +14,7 @@ pub fn lines(m: Monitor) -> Text {
     put_reason(&mut t, d);
     put_advice(&mut t, d.finding, config.ram_len);
     put_position(&mut t, d.position);
-    if let Finding::Stopped(Stop::Digest) = d.finding {
+    if d.finding == Finding::Stopped(Stop::Digest) {
         put_digests(&mut t, d.digest, config.digests);
     }
     t

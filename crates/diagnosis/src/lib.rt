@@ -68,7 +68,7 @@ pub struct Monitor {
     pub hash: Context,
     pub position: Position,
     pub verdict: Verdict,
-    // The digest of the program, once all of it has come; zeros before.
+    // The digest of the program, once all of it has come; zeros before, no Option: Monitor of specs/ has them so.
     pub digest: [u8; 32],
 }
 
@@ -109,7 +109,7 @@ pub struct Diagnosis {
     pub finding: Finding,
     // The last byte that was read: at a stop, the byte that stopped the head, and number 0 where no byte did.
     pub position: Position,
-    // The program's digest at a start and at stop 25; zeros otherwise.
+    // The program's digest at a start and at stop 25; zeros otherwise, as specs/ and the C call give them.
     pub digest: [u8; 32],
 }
 

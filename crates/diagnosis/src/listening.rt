@@ -11,29 +11,24 @@ use head::{Answer, Phase, State, Stop};
 fn is_open(v: Verdict) -> bool
     ensures { result ≡ is_open (verdict_of v) }
 {
-    matches!(v, Verdict::Open)
+    v == Verdict::Open
 }
 
-// Where the next byte stands, if got bytes of its frame came before it.
-fn position_after(p: Position, got: u8) -> Position
-    requires { (p.byte + 1 < 2 ^ 64) × (p.frame + 1 < 2 ^ 64) }
-    ensures { result ≡ position_after p got }
-{
-    Position {
-        byte: p.byte + 1,
-        frame: if got == 0 { p.frame + 1 } else { p.frame },
-        offset: got,
-    }
-}
-
-// A byte was read, and the head is in this state.
+// A byte was read, and the head is in this state. The byte stands behind those of its frame that came before it.
 fn moved(w: Monitor, head: State) -> Monitor
     requires { (w.position.byte + 1 < 2 ^ 64) × (w.position.frame + 1 < 2 ^ 64) }
     ensures { monitor_of result ≡ moved (monitor_of w) head }
 {
+    let p = w.position;
+    let got = w.head.incoming.got;
+    let position = Position {
+        byte: p.byte + 1,
+        frame: if got == 0 { p.frame + 1 } else { p.frame },
+        offset: got,
+    };
     Monitor {
         head,
-        position: position_after(w.position, w.head.incoming.got),
+        position,
         ..w
     }
 }

@@ -11,8 +11,8 @@ use std::ops::ControlFlow;
 use text::{Hex, Text};
 
 const COMMAND: Command = Command {
-    name: b"digest",
-    unreadable: b"",
+    name: "digest",
+    unreadable: "",
 };
 
 fn main(rt: HostRuntime) {
@@ -41,14 +41,13 @@ fn hash_file<F: Read>(rt: &HostRuntime, file: &mut F, name: &[u8]) -> Result<(),
     });
     match read {
         Err(why) => Err(COMMAND.fail(rt, name, why).into()),
-        Ok(ControlFlow::Break(_)) => Err(COMMAND.refuse(rt, name, too_long()).into()),
+        // A part is refused only where the file has too many bytes.
+        Ok(ControlFlow::Break(_)) => {
+            let why = Text::of("it has more than 4294967295 bytes");
+            Err(COMMAND.refuse(rt, name, why).into())
+        }
         Ok(ControlFlow::Continue(())) => finish(rt, context, name),
     }
-}
-
-// A part is refused only where the file has too many bytes.
-fn too_long() -> Text {
-    Text::of("it has more than 4294967295 bytes")
 }
 
 fn finish(rt: &HostRuntime, context: Context, name: &[u8]) -> Result<(), Undone> {

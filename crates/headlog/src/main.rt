@@ -3,25 +3,16 @@
 // hands over the bytes that it reads, in order, and writes each text. What cannot be written is lost: there is nobody to tell.
 #![tactic(auto)]
 
-use std::io::Read;
-
 fn main(rt: HostRuntime) {
     let mut ram = [0u8; 32768];
     let mut front = [0u8; 296];
     let got = input::read_full(&mut rt.stdin(), &mut front);
     let mut t = printer::open(front, got, &mut ram);
     let _ = text::write(&mut rt.stdout(), t.text);
+    // One byte and no more at a time, so that a reply is out before the next is waited for. No `for`: after 2^64 turns it would end without the
+    // last line.
     while let Some(session) = t.session {
-        t = printer::advance(session, read(&mut rt.stdin()), &mut ram);
+        t = printer::advance(session, input::read_byte(&mut rt.stdin()), &mut ram);
         let _ = text::write(&mut rt.stdout(), t.text);
-    }
-}
-
-// One byte and no more, so that a reply is out before the next byte is waited for; none at the end. A read that fails is an end.
-fn read<F: Read>(from: &mut F) -> Option<u8> {
-    let mut byte = [0u8; 1];
-    match from.read(&mut byte) {
-        Ok(1) => Some(byte[0]),
-        _ => None,
     }
 }

@@ -11,9 +11,9 @@ use text::Text;
 #[derive(Clone, Copy)]
 pub struct Command {
     // Its name, which each line begins with.
-    pub name: &'static [u8],
+    pub name: &'static str,
     // What stands before the reason why a file cannot be read.
-    pub unreadable: &'static [u8],
+    pub unreadable: &'static str,
 }
 
 // Why a command ends early; that was said.
@@ -56,7 +56,7 @@ impl From<Undone> for u32 {
 }
 
 impl Command {
-    // Puts the name of the file in argument i into the room.
+    // Puts the name of the file in argument i into the room, and gives it back.
     pub fn name_at<'a>(
         self,
         rt: &HostRuntime,
@@ -69,19 +69,27 @@ impl Command {
         }
     }
 
-    // Reads the file that argument i names into buf, to its end or as much as there is room for, and answers how many bytes that is.
-    pub fn read(self, rt: &HostRuntime, i: usize, buf: &mut [u8]) -> Result<usize, Failure>
-        ensures { IfOk result (λ n. n ≤ length buf.new) }
+    // Reads the file that argument i names into buf, to its end or as much as there is room for, and gives what it read.
+    pub fn read<'a>(
+        self,
+        rt: &HostRuntime,
+        i: usize,
+        buf: &'a mut [u8],
+    ) -> Result<&'a [u8], Failure>
+        ensures { IfOk result (λ bytes. length bytes.now ≤ length buf.old) }
     {
         let mut room = zeros();
         let name = self.name_at(rt, i, &mut room)?;
-        super::read(rt, i, name, buf).map_err(|why| self.fail(rt, name, why))
+        match super::read(rt, i, name, buf) {
+            Ok(n) => Ok(&buf[..n]),
+            Err(why) => Err(self.fail(rt, name, why)),
+        }
     }
 
     // Says of a file that it cannot be read, and why, as errno does.
     pub fn fail(self, rt: &HostRuntime, file: &[u8], why: io::Error) -> Failure {
         self.begin_line(rt, file);
-        let _ = rt.stderr().write_all(self.unreadable);
+        let _ = rt.stderr().write_all(self.unreadable.as_bytes());
         write_why(rt, &mut rt.stderr(), why);
         Failure::File
     }
@@ -111,7 +119,7 @@ impl Command {
     }
 
     fn begin_line(self, rt: &HostRuntime, file: &[u8]) {
-        let _ = rt.stderr().write_all(self.name);
+        let _ = rt.stderr().write_all(self.name.as_bytes());
         let _ = rt.stderr().write_all(b": ");
         let _ = rt.stderr().write_all(file);
         let _ = rt.stderr().write_all(b": ");

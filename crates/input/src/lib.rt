@@ -45,6 +45,11 @@ pub fn open_place<R: Files + Alloc>(rt: &R, place: usize) -> io::Result<R::File>
     File::open(rt, path)
 }
 
+// Opens for writing what is open on a descriptor: its path.
+pub fn open_to<R: Files>(rt: &R, path: &str) -> io::Result<R::File> {
+    OpenOptions::new().write(true).open(rt, path)
+}
+
 // Reads the file that argument i names so into buf, to its end or as much as there is room for, and answers how many bytes that is.
 pub fn read<R: Files + Alloc>(rt: &R, i: usize, name: &[u8], buf: &mut [u8]) -> io::Result<usize>
     ensures { IfOk result (λ n. n ≤ length buf.new) }
@@ -63,7 +68,8 @@ fn read_open<F: Read>(file: &mut F, buf: &mut [u8]) -> io::Result<usize>
     Ok(n)
 }
 
-// Reads until buf is full, the input ends or a read fails, and answers how many bytes it put at the start of buf.
+// Reads until buf is full, the input ends or a read fails, and answers how many bytes it put at the start of buf. Not by `read_exact`, which
+// reads on where a read was interrupted, and tells of an input that ends too soon not how many bytes came.
 pub fn read_full<F: Read>(file: &mut F, buf: &mut [u8]) -> usize
     ensures { result ≤ length buf.new }
 {
@@ -82,6 +88,15 @@ pub fn read_array<const N: usize, F: Read>(file: &mut F) -> [u8; N] {
     let mut bytes = zeros();
     read_full(file, &mut bytes);
     bytes
+}
+
+// The byte that comes next; none at the end. A read that fails is an end.
+pub fn read_byte<F: Read>(file: &mut F) -> Option<u8> {
+    let mut byte = [0];
+    match file.read(&mut byte) {
+        Ok(1) => Some(byte[0]),
+        _ => None,
+    }
 }
 
 // The number in the four bytes that come next, lowest first.
@@ -145,6 +160,7 @@ pub fn number_at(rt: &impl Env, i: usize) -> u32 {
     }
 }
 
+// Not `parse`, which takes `+5` and of `1a` nothing: what a program answers stays.
 fn number_in(digits: &[u8]) -> u32 {
     digits.iter().fold(0, |n: u32, b| {
         let digit = char::from(*b).to_digit(10).unwrap_or(0);
@@ -166,7 +182,7 @@ pub fn run<R: Files, E: Into<u32>, F: FnOnce(&R) -> Result<(), E>>(rt: &R, progr
 
 // Opens descriptor 3, where the number of a program goes.
 pub fn open_number<R: Files>(rt: &R) -> io::Result<R::File> {
-    OpenOptions::new().write(true).open(rt, "/proc/self/fd/3")
+    open_to(rt, "/proc/self/fd/3")
 }
 
 // Gives the number of a program.

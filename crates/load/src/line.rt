@@ -1,5 +1,5 @@
 // The line: frames are sent, and what comes is told to `upload`.
-use std::fs::{File, OpenOptions};
+use std::fs::File;
 use std::io;
 use std::io::{IsTerminal, Read, Write};
 use std::time::{SystemTime, UNIX_EPOCH};
@@ -17,18 +17,14 @@ pub fn open(rt: &HostRuntime) -> Option<Line> {
     match input::open_place(rt, 4) {
         Ok(input) if input.is_terminal() => Some(Line {
             input,
-            output: open_output(rt),
+            // What is written here ./load hands to the line, which takes at once what it can: a write never waits.
+            output: input::open_to(rt, "/proc/self/fd/5"),
         }),
         _ => None,
     }
 }
 
-// What is written here ./load hands to the line, which takes at once what it can: a write never waits.
-fn open_output(rt: &HostRuntime) -> io::Result<File> {
-    OpenOptions::new().write(true).open(rt, "/proc/self/fd/5")
-}
-
-// Sends frames and reads replies until the load is over.
+// Sends frames and reads replies until the load is over. A `while`: that it ends is a theorem of `upload`, its measure.
 pub fn converse(
     rt: &HostRuntime,
     line: &mut Line,
@@ -41,7 +37,7 @@ pub fn converse(
     let mut t = job.open();
     while !t.next.is_over() {
         let k = t.exchange.k;
-        if let Next::Send = t.next {
+        if t.next == Next::Send {
             send(&mut line.output, program, job.id, secret, k);
         }
         let event = receive(&mut line.input);

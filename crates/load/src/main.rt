@@ -10,8 +10,8 @@ use input::Command;
 use upload::{Exchange, Job, Next, Turn};
 
 const COMMAND: Command = Command {
-    name: b"load",
-    unreadable: b"cannot be read: ",
+    name: "load",
+    unreadable: "cannot be read: ",
 };
 
 // Why nothing is loaded, or a load is not told; that was said.
@@ -46,8 +46,7 @@ fn main(rt: HostRuntime) {
 // which no frame has.
 fn run(rt: &HostRuntime) -> Result<(), Failure> {
     let mut room = input::zeros::<131073>();
-    let n = COMMAND.read(rt, 2, &mut room)?;
-    let program = &room[..n];
+    let program = COMMAND.read(rt, 2, &mut room)?;
     let id = input::number_at(rt, 3).min(4) as u8;
     let job = Job::new(program, id, input::number_at(rt, 4));
     conclude(rt, 2, job, job.open())?;
@@ -64,7 +63,7 @@ fn secret(rt: &HostRuntime, job: Job) -> Result<Option<[u8; 32]>, Failure> {
         return Ok(None);
     }
     let mut file = [0u8; 33];
-    if COMMAND.read(rt, 6, &mut file)? != 32 {
+    if COMMAND.read(rt, 6, &mut file)?.len() != 32 {
         return Err(refuse(
             rt,
             6,

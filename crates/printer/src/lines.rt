@@ -6,7 +6,7 @@ ghost use Rattle.printer.specs.Output.{reply_text};
 use loader::{Answer, Refusal};
 use text::{Hex, Show, Text};
 
-// A reply: the first n bytes of the room. None if n is 0.
+// A reply: the first n bytes of the room. None if n is 0. Room and number, no slice: `reply_text` of specs/ speaks of both.
 #[derive(Clone, Copy)]
 pub struct Reply {
     pub room: [u8; 129],

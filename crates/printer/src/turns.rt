@@ -27,7 +27,7 @@ pub struct Turn {
 }
 
 // The first turn: of the first 296 bytes of the input so many were got, and zeros stand for the others. Only a RAM that no head can have is
-// refused; document 01 has no line for that, and it is printed as `E 7`.
+// refused; document 01 has no line for that, and it is printed as `E 7`. Array and number, no slice: the theorem `printer` speaks of both.
 pub fn open(front: [u8; 296], got: usize, ram: &mut [u8]) -> Turn
     ensures turn { result ≡ opening front got ram.old }
     ensures ram { ram.new ≡ ram.old }
@@ -90,8 +90,8 @@ fn going(session: Session, answer: Answer) -> Option<Session>
     }
 }
 
-// Every other turn, by the byte that is received, none at the end of the input, and with the RAM that the turn before left. Of a session from `open`, a call is refused only where RAM has another length; it is
-// then printed as `E` and the number.
+// Every other turn, by the byte that is received, none at the end of the input, and with the RAM that the turn before left. Of a session from
+// `open`, a call is refused only where RAM has another length; it is then printed as `E` and the number.
 pub fn advance(s: Session, byte: Option<u8>, ram: &mut [u8]) -> Turn
     ensures turn { result ≡ turned s byte ram.old }
     ensures ram { ram.new ≡ ram_after s byte ram.old }

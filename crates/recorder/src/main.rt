@@ -13,8 +13,8 @@ use std::io;
 use std::io::Read;
 
 const COMMAND: Command = Command {
-    name: b"record",
-    unreadable: b"",
+    name: "record",
+    unreadable: "",
 };
 
 fn main(rt: HostRuntime) {

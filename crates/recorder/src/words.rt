@@ -1,4 +1,5 @@
 // The words of a record: what begin reads of it, and the data that it leaves to the next program.
+// No contract speaks of a program's words, so functions that write are plainer here than structs with `Show`.
 use handover::Refusal;
 use record::{Digests, Record, ResetType};
 use text::{Hex, Show, Text};

@@ -1,7 +1,7 @@
 // A head on a pseudo-terminal: the proved loader (crate `loader`) behind standard input and output. ./simulate opens the terminal.
 // On descriptor 4 come the record, the UDS, the UDI, the built-in digest, the RAM's length, as 1 or 0 whether descriptor 2 is a terminal, and
-// the two slots of flash, each behind its length. What is shown (crate `display`) goes to descriptor 2 and the exit status, which a Rattle program has not, to
-// descriptor 3.
+// the two slots of flash, each behind its length. What is shown (crate `display`) goes to descriptor 2 and the exit status, which a Rattle
+// program has not, to descriptor 3.
 // What no contract can say is left to this file: that it hands over the bytes that it reads, in order, and writes each reply and text.
 #![tactic(auto)]
 
@@ -93,9 +93,8 @@ fn begin(
     match begun {
         Err(why) => ControlFlow::Break(Err(why)),
         Ok(step) => {
-            let state = step.state;
             let head = Head {
-                state,
+                state: step.state,
                 words,
                 terminal,
             };
@@ -117,11 +116,10 @@ fn turn(answer: Result<Answer, Refusal>, head: Head) -> Turn {
 fn serve(rt: &HostRuntime, begun: Head, ram: &mut [u8]) -> Result<Answer, Refusal> {
     let mut head = begun;
     for _ in 0..u64::MAX {
-        let mut byte = [0u8; 1];
-        let Ok(1) = rt.stdin().read(&mut byte) else {
+        let Some(byte) = input::read_byte(&mut rt.stdin()) else {
             break;
         };
-        match receive(rt, head, byte[0], ram) {
+        match receive(rt, head, byte, ram) {
             ControlFlow::Continue(next) => head = next,
             ControlFlow::Break(last) => return last,
         }

@@ -21,7 +21,7 @@ pub fn blocks(spool: &[u8]) -> Result<&[[u8; 512]], Refusal>
     Ok(blocks)
 }
 
-// A reader: the blocks of a spool, and the place of the one that it stands at.
+// A reader: the blocks of a spool, and the place of the one that it stands at. Document 01 names this form.
 #[derive(Clone, Copy)]
 pub struct Reader<'a> {
     blocks: &'a [[u8; 512]],

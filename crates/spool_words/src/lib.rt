@@ -53,6 +53,7 @@ fn good_before(bytes: &[u8]) -> usize
     ensures { result ≡ good_before bytes.now }
 {
     let n = bytes.len() / 512;
+    // Not `(0..n).find(..)`: tried, its proof did not close.
     for i in 0..n {
         if spool::look(bytes, i).is_err() {
             return i;

@@ -13,8 +13,8 @@ use std::io;
 use text::Text;
 
 const COMMAND: Command = Command {
-    name: b"spool",
-    unreadable: b"cannot be read: ",
+    name: "spool",
+    unreadable: "cannot be read: ",
 };
 
 // Room for a program: for one that is too long, so that it is refused and not cut, and for all that 278 blocks of a spool can hold, which a
@@ -66,8 +66,7 @@ fn run(rt: &HostRuntime) -> Result<(), Failure> {
 
 fn write(rt: &HostRuntime) -> Result<(), Failure> {
     let mut file = input::zeros::<PROGRAM_ROOM>();
-    let n = COMMAND.read(rt, 2, &mut file)?;
-    let program = &file[..n];
+    let program = COMMAND.read(rt, 2, &mut file)?;
     let mut room = input::zeros::<SPOOL_ROOM>();
     match spool::write(program, &mut room) {
         Err(why) => Err(refuse(rt, why)),
@@ -84,8 +83,7 @@ fn refuse(rt: &HostRuntime, why: Refusal) -> Failure {
 
 fn read(rt: &HostRuntime) -> Result<(), Failure> {
     let mut file = input::zeros::<SPOOL_ROOM>();
-    let n = COMMAND.read(rt, 2, &mut file)?;
-    let bytes = &file[..n];
+    let bytes = COMMAND.read(rt, 2, &mut file)?;
     let mut room = input::zeros::<PROGRAM_ROOM>();
     match spool::read(bytes, &mut room) {
         Err(why) => {
@@ -98,7 +96,7 @@ fn read(rt: &HostRuntime) -> Result<(), Failure> {
         }
         Ok(len) => {
             let program = endian::first(&room, len);
-            deliver(rt, program, line(n, program))
+            deliver(rt, program, line(bytes.len(), program))
         }
     }
 }
@@ -108,11 +106,10 @@ fn read(rt: &HostRuntime) -> Result<(), Failure> {
 // The program is read only for its digest.
 fn check(rt: &HostRuntime) -> Result<(), Failure> {
     let mut file = input::zeros::<SPOOL_ROOM>();
-    let n = COMMAND.read(rt, 2, &mut file)?;
-    let bytes = &file[..n];
+    let bytes = COMMAND.read(rt, 2, &mut file)?;
     let mut room = input::zeros::<PROGRAM_ROOM>();
     match spool::read(bytes, &mut room) {
-        Ok(len) => print(rt, line(n, endian::first(&room, len))),
+        Ok(len) => print(rt, line(bytes.len(), endian::first(&room, len))),
         Err(Refusal::SpoolLength) => Err(refuse(rt, Refusal::SpoolLength)),
         Err(_) => list_bad(rt, bytes),
     }

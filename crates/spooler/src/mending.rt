@@ -10,7 +10,7 @@ const SPARES_ROOM: usize = 4194305;
 
 pub fn salvage(rt: &HostRuntime) -> Result<(), Failure> {
     let mut file = input::zeros::<SPOOL_ROOM>();
-    let n = COMMAND.read(rt, 2, &mut file)?;
+    let n = COMMAND.read(rt, 2, &mut file)?.len();
     if 142336 < n {
         return Err(super::refuse(rt, Refusal::SpoolLength));
     }
@@ -43,7 +43,7 @@ fn read_spares(rt: &HostRuntime, room: &mut [u8]) -> Result<usize, Failure>
 fn read_more(rt: &HostRuntime, i: usize, room: &mut [u8]) -> Result<usize, Failure>
     ensures { IfOk result (λ n. n ≤ length room.new) }
 {
-    let n = COMMAND.read(rt, i, room)?;
+    let n = COMMAND.read(rt, i, room)?.len();
     if room.len() <= n {
         return Err(COMMAND.refuse_at(rt, i, words::too_many()).into());
     }

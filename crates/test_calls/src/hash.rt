@@ -2,18 +2,9 @@
 use super::image;
 use blake2s::{Context, Refusal};
 
-pub fn call(rt: &impl Print, context: &mut Context, c: &[u8; 320]) {
-    match c[0] {
-        2 => begin(rt, context, c),
-        3 => update(rt, context, c),
-        4 => finish(rt, context, c[1]),
-        _ => {}
-    }
-}
-
 // Byte 1 says how many bytes of the key are lent, which stands from byte 8 on, and byte 2 how many bytes the hash is to have. Where byte 3 is
 // not 0 the context is made to have taken as many bytes as 4 to 7 say, in place of a hash of 4 GiB. A refused call begins no hash.
-fn begin(rt: &impl Print, context: &mut Context, c: &[u8; 320]) {
+pub fn begin(rt: &impl Print, context: &mut Context, c: &[u8; 320]) {
     let n = usize::from(c[1]);
     let begun = Context::begin(&c[8..8 + n], usize::from(c[2]));
     *context = begun.unwrap_or_default();
@@ -25,14 +16,14 @@ fn begin(rt: &impl Print, context: &mut Context, c: &[u8; 320]) {
 }
 
 // Byte 1 says how many bytes the part has, which stands from byte 8 on.
-fn update(rt: &impl Print, context: &mut Context, c: &[u8; 320]) {
+pub fn update(rt: &impl Print, context: &mut Context, c: &[u8; 320]) {
     let n = usize::from(c[1]);
     write_answer(rt, context.update(&c[8..8 + n]));
     write_context(rt, context);
 }
 
 // So many bytes are lent for the hash.
-fn finish(rt: &impl Print, context: &Context, n: u8) {
+pub fn finish(rt: &impl Print, context: &Context, n: u8) {
     let mut out = [0xaau8; 255];
     let answer = context.finish(&mut out[..usize::from(n)]);
     write_answer(rt, answer);
@@ -43,12 +34,12 @@ fn finish(rt: &impl Print, context: &Context, n: u8) {
 
 // Of a context what is not only seen in the hash.
 fn write_context(rt: &impl Print, context: &Context) {
-    image::write_word(rt, context.message);
-    image::write_byte(rt, u8::from(context.keyed));
-    image::write_length(rt, context.size);
+    image::write(rt, &context.message.to_le_bytes());
+    image::write(rt, &[u8::from(context.keyed)]);
+    image::write(rt, &context.size.to_le_bytes());
 }
 
 // The refusal's number, 0 where there is none.
 fn write_answer(rt: &impl Print, answer: Result<(), Refusal>) {
-    image::write_word(rt, answer.err().map_or(0, u32::from));
+    image::write(rt, &answer.err().map_or(0, u32::from).to_le_bytes());
 }

@@ -12,8 +12,16 @@ use blake2s::Context;
 fn main(rt: HostRuntime) {
     let mut context = Context::default();
     for _ in 0..input::read_number(&mut rt.stdin()) {
-        let call = input::read_array(&mut rt.stdin());
-        hash::call(&rt, &mut context, &call);
-        small::call(&rt, &call);
+        let c: [u8; 320] = input::read_array(&mut rt.stdin());
+        match c[0] {
+            2 => hash::begin(&rt, &mut context, &c),
+            3 => hash::update(&rt, &mut context, &c),
+            4 => hash::finish(&rt, &context, c[1]),
+            5 => small::read_header(&rt, c[1]),
+            6 => small::write_header(&rt, &c),
+            7 => small::derive(&rt, &c),
+            8 => small::read_reply_header(&rt, c[1]),
+            _ => {}
+        }
     }
 }

@@ -10,6 +10,7 @@ use std::fmt::Format;
 use std::io;
 use std::io::Write;
 
+// Array and length, since a library has no heap. Public, with no invariant: specs/ make and read texts by both fields, `printer`'s too.
 #[derive(Clone, Copy)]
 pub struct Text {
     pub len: usize,

@@ -56,10 +56,10 @@ loop-t-init c = rw c.open-t.ensures.turn (opened _ _ _)
 pub loop-t-preserved : goal.loop-t-preserved
 loop-t-preserved c =
     let s = c.in-Some.session in
-    rw c.advance-t.ensures.turn (more s c.read.result c.loop-t.ram (bound c.loop-t.t.session s c.in-Some.is c.loop-t.invariant))
+    rw c.advance-t.ensures.turn (more s c.read_byte.result c.loop-t.ram (bound c.loop-t.t.session s c.in-Some.is c.loop-t.invariant))
 
 pub loop-t-smaller : goal.loop-t-smaller
 loop-t-smaller c =
     let s = c.in-Some.session in
     let h = bound c.loop-t.t.session s c.in-Some.is c.loop-t.invariant in
-    rw (c.advance-t.ensures.turn, c.in-Some.is) (fewer s c.read.result c.loop-t.ram h)
+    rw (c.advance-t.ensures.turn, c.in-Some.is) (fewer s c.read_byte.result c.loop-t.ram h)
