@@ -151,8 +151,6 @@ fn put_position(t: &mut Text, p: Position) {
 // The digests that differ at stop 25: the program's, and the one or two that are allowed.
 fn put_digests(t: &mut Text, measured: [u8; 32], allowed: Digests) {
     ("measured ", Hex(&measured), "\n").show(t);
-    ("allowed  ", Hex(&allowed.first), "\n").show(t);
-    if allowed.has_second {
-        ("or       ", Hex(&allowed.second), "\n").show(t);
-    }
+    let second = allowed.has_second.then_some(&allowed.second);
+    input::put_allowed(t, &allowed.first, second);
 }

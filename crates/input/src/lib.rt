@@ -13,6 +13,7 @@ use std::io;
 use std::io::{Read, Write};
 use std::ops::ControlFlow;
 use std::rt::{Env, Files};
+use text::{Hex, Show, Text};
 
 // errno where a call is given what there is not, and where a name is too long.
 const EINVAL: i32 = 22;
@@ -166,6 +167,16 @@ fn number_in(digits: &[u8]) -> u32 {
         let digit = char::from(*b).to_digit(10).unwrap_or(0);
         n.saturating_mul(10).saturating_add(digit)
     })
+}
+
+// ---- what is said of a record
+
+// The lines of the digests that are allowed: the first, and the second if there is one.
+pub fn put_allowed(t: &mut Text, first: &[u8; 32], second: Option<&[u8; 32]>) {
+    ("allowed  ", Hex(first), "\n").show(t);
+    if let Some(second) = second {
+        ("or       ", Hex(second), "\n").show(t);
+    }
 }
 
 // ---- what is given

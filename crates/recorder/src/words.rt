@@ -78,10 +78,8 @@ fn put_unread(t: &mut Text, allowed: &str, has_second: bool) {
 }
 
 fn put_allowed(t: &mut Text, digests: Digests) {
-    ("allowed  ", Hex(&digests.first), "\n").show(t);
-    if digests.has_second {
-        ("or       ", Hex(&digests.second), "\n").show(t);
-    }
+    let second = digests.has_second.then_some(&digests.second);
+    input::put_allowed(t, &digests.first, second);
 }
 
 // ---- the mask
