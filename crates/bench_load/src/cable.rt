@@ -1,6 +1,6 @@
 // The cable: a head with 131,072 bytes of RAM receives whole loads.
 use super::frames;
-use loader::{Answer, Flash, Start};
+use loader::{Answer, Flash, Slot, Start};
 
 // What the loads came to.
 #[derive(Clone, Copy)]
@@ -33,9 +33,18 @@ pub fn load_often(size: u32, times: u32) -> Loaded {
 fn session(bytes: &[u8], ram: &mut [u8]) -> Option<Start> {
     let mut record = [0u8; 256];
     record[0] = 4;
+    let empty = Slot {
+        bytes: b"",
+        size: 0,
+    };
+    let flash = Flash {
+        slot0: empty,
+        slot1: empty,
+        built_in: [0; 32],
+    };
     let mut words = [0x13121110u32; 8];
     let mut room = [0u8; 129];
-    let mut state = loader::begin(&record, [0xd0; 8], Flash::default(), ram, &mut words)
+    let mut state = loader::begin(&record, [0xd0; 8], flash, ram, &mut words)
         .ok()?
         .state;
     let mut last = None;

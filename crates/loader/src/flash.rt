@@ -6,15 +6,15 @@ ghost use Rattle.head.specs.Begin.{from_flash};
 
 use head::{Config, Phase, Step, Stop};
 
-// A slot of flash, and the size that the program in it is said to have. By default nothing is in it.
-#[derive(Clone, Copy, Default)]
+// A slot of flash, and the size that the program in it is said to have.
+#[derive(Clone, Copy)]
 pub struct Slot<'a> {
     pub bytes: &'a [u8],
     pub size: usize,
 }
 
 // What of flash begin is lent and given: two slots, and the digest that is built in for type 0.
-#[derive(Clone, Copy, Default)]
+#[derive(Clone, Copy)]
 pub struct Flash<'a> {
     pub slot0: Slot<'a>,
     pub slot1: Slot<'a>,

@@ -4,7 +4,7 @@ ghost use Rattle.head.specs.Answers.{result_of};
 ghost use Rattle.head.specs.Begin.{beginning};
 ghost use Rattle.printer.specs.Output.{no_flash, words_in};
 
-use loader::{Flash, Refusal, Step};
+use loader::{Flash, Refusal, Slot, Step};
 use std::array;
 
 // Begins with this record and UDI, and with nothing in flash.
@@ -12,7 +12,17 @@ pub fn begin(front: [u8; 296], ram: &mut [u8], words: &mut [u32]) -> Result<Step
     ensures { result_of result ram.new words.new ≡ beginning (take 256 front) (drop 288 front) no_flash ram.old words.old }
 {
     let udi = udi_of(front);
-    loader::begin(&front[..256], udi, Flash::default(), ram, words)
+    // Not `Flash::default()`: tried with a derive in `loader`, `begin` was then not proved.
+    let empty = Slot {
+        bytes: b"",
+        size: 0,
+    };
+    let flash = Flash {
+        slot0: empty,
+        slot1: empty,
+        built_in: [0; 32],
+    };
+    loader::begin(&front[..256], udi, flash, ram, words)
 }
 
 fn udi_of(front: [u8; 296]) -> [u8; 8]
