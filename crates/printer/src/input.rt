@@ -12,7 +12,7 @@ pub fn begin(front: [u8; 296], ram: &mut [u8], words: &mut [u32]) -> Result<Step
     ensures { result_of result ram.new words.new ≡ beginning (take 256 front) (drop 288 front) no_flash ram.old words.old }
 {
     let udi = udi_of(front);
-    // Not `Flash::default()`: tried with a derive in `loader`, `begin` was then not proved.
+    // Not `Flash::default()`: tried in `loader`, by derive and by hand, and the proof of `begin` did not close.
     let empty = Slot {
         bytes: b"",
         size: 0,
