@@ -12,10 +12,7 @@ use client::Refusal;
 fn number(r: Result<(), Refusal>) -> u32
     ensures { result ≡ number_of r }
 {
-    match r {
-        Ok(()) => 0,
-        Err(why) => why.into(),
-    }
+    r.err().map_or(0, u32::from)
 }
 
 // Any `used` but 0 is a yes: of what another language passes as a bool, bit 0 alone would be read.
@@ -30,7 +27,7 @@ pub extern "C" fn mastfrap_make_frame(
 ) -> u32
     ensures { making_as result room.new ≡ making program.now id (secret_of (not (eqb used 0)) uss.now) k room.old }
 {
-    let secret = if used == 0 { None } else { Some(*uss) };
+    let secret = (used != 0).then_some(*uss);
     number(client::make_frame(program, id, secret, k, room))
 }
 
@@ -60,8 +57,5 @@ pub extern "C" fn mastfrap_read_reply(
 pub extern "C" fn mastfrap_difference(len: usize, id: u8, k: u32, reply: &[u8]) -> u32
     ensures { result ≡ difference_number (differing len id k reply.now) }
 {
-    match client::reply_difference(len, id, k, reply) {
-        None => 0,
-        Some(difference) => difference.into(),
-    }
+    client::reply_difference(len, id, k, reply).map_or(0, u32::from)
 }

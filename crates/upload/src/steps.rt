@@ -56,8 +56,7 @@ impl Job {
         ensures taking { taking_of result ≡ taking self.len self.id x.k (came_of x) }
         ensures digest { IfOk result (λ t. is_some t.digest ≡ has_digest (expected_reply self.len x.k)) }
     {
-        let reply = x.reply;
-        client::read_reply(self.len, self.id, x.k, endian::first(&reply, x.got))
+        client::read_reply(self.len, self.id, x.k, x.came())
     }
 
     // Frame k, of whose reply nothing has come.
@@ -102,7 +101,7 @@ impl Job {
         let Ok(t) = self.read(x) else {
             return x.failed(Failure::UnexpectedReply);
         };
-        if let Status::Bad = t.status {
+        if t.status == Status::Bad {
             return x.failed(Failure::Refused);
         }
         match t.digest {
@@ -121,8 +120,7 @@ impl Job {
     fn check(self, theirs: [u8; 32]) -> Result<(), Failure>
         ensures { Over result ≡ after_last self theirs }
     {
-        let ours = self.digest;
-        if endian::equal(&theirs, &ours) {
+        if theirs == self.digest {
             Ok(())
         } else {
             Err(Failure::OtherDigest)
@@ -131,6 +129,13 @@ impl Job {
 }
 
 impl Exchange {
+    // What has come of the reply.
+    pub fn came(&self) -> &[u8]
+        ensures { result.now ≡ came_of self.now }
+    {
+        endian::first(&self.reply, self.got)
+    }
+
     // The end, for this reason.
     fn failed(self, why: Failure) -> Turn
         ensures { result ≡ over self why }
