@@ -83,7 +83,7 @@ pub fn endpoint(b: u8) -> u8
     b / 8 % 4
 }
 
-// The status that bit 2 of a reply's header stands for.
+// The status that bit 2 of a reply's header stands for. Here a set bit is Bad, so protocol's `status_if` is another conversion.
 fn header_status(b: u8) -> Status
     ensures { status_number result ≡ in_field status b }
 {

@@ -12,7 +12,7 @@ use client::Difference;
 use text::{Hex, Repeated, Show, Text};
 use upload::{Exchange, Failure, Job};
 
-// How many blocks a program has.
+// How many blocks a program has. Not protocol's blocks_for: a file may have over 2^32 bytes, and that takes a size of 32 bits.
 fn blocks(len: usize) -> usize
     ensures { result ≡ blocks_for len }
 {
@@ -67,7 +67,7 @@ impl Show for Reply {
     ghost words = { λ r. hex_of (came_of r.0) };
 
     fn show(&self, t: &mut Text) {
-        Hex(endian::first(&self.0.reply, self.0.got)).show(t)
+        Hex(self.0.came()).show(t)
     }
 }
 
@@ -107,6 +107,8 @@ impl Show for Differs {
 
 // ---- messages
 
+// Job and exchange stay two values: one job lasts a whole load, and each turn has its own exchange.
+
 fn unexpected(job: Job, x: Exchange) -> Text
     ensures { result ≡ text_of (unexpected job x) }
 {
@@ -124,8 +126,7 @@ fn unexpected(job: Job, x: Exchange) -> Text
 fn difference(job: Job, x: Exchange) -> Option<Difference>
     ensures { result ≡ differing job.len job.id x.k (came_of x) }
 {
-    let reply = x.reply;
-    client::reply_difference(job.len, job.id, x.k, endian::first(&reply, x.got))
+    client::reply_difference(job.len, job.id, x.k, x.came())
 }
 
 fn refused(job: Job, x: Exchange) -> Text

@@ -116,7 +116,7 @@ fn with_status(header: u8, len: usize, code: u8, status: Status, mut body: [u8; 
     }
 }
 
-// Good for what was done, Bad for what was not.
+// Good for what was done, Bad for what was not. No `From<bool>`: at the call it would not say which of the two `true` is.
 fn status_if(good: bool) -> Status
     ensures { result ≡ cond good Good Bad }
 {

@@ -50,7 +50,7 @@ fn check_is_good(b: &[u8; 512]) -> bool
     endian::equal(&b[480..], &check_of(b))
 }
 
-// The number in four bytes from a place on.
+// The number in four bytes from a place on. `endian::word_at` reads the block, `number_in` the field: the check alone does not find them equal.
 fn number_at(b: &[u8], at: usize) -> u32
     requires { at + 4 ≤ length b.now }
     ensures { result ≡ number_in (record { from = at; size = 4 }) b.now }
