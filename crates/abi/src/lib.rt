@@ -157,8 +157,7 @@ pub extern "C" fn mastfrap_reset(
         second: *second,
         next_data,
     };
-    match handover::reset(cdi, seed, next, record) {
-        Err(why) => u32::from(why),
-        Ok(()) => 0,
-    }
+    handover::reset(cdi, seed, next, record)
+        .err()
+        .map_or(0, u32::from)
 }
