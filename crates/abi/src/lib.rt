@@ -23,7 +23,7 @@ fn refusal_number(why: Refusal) -> u32
     u32::from(u8::from(why))
 }
 
-// The number of an answer.
+// The number of an answer. Not a `From`: 0, 64 and 65 are numbers of the C calls alone, and the type is `head`'s.
 fn answer_number(a: Answer) -> u32
     ensures { result ≡ answer_number (report_of a) }
 {

@@ -56,7 +56,7 @@ pub fn received(
     }
 }
 
-// The exit status of a simulation whose last answer this is.
+// The exit status of a simulation whose last answer this is. Not a `From`: neither Result nor u8 is a type of this crate.
 pub fn exit_number(answer: Result<Answer, Refusal>) -> u8
     ensures { result ≡ exit_number answer }
 {

@@ -49,7 +49,7 @@ pub struct Digests {
 pub struct Record {
     // None for a number that stands for no type.
     pub reset_type: Option<ResetType>,
-    // Mask bit 0: the CDI is chained to measured_id.
+    // Mask bit 0: the CDI is chained to measured_id. Not an Option: the state that C lends has the 32 bytes as they came, also where it is clear.
     pub reset_seed: bool,
     pub digests: Digests,
     pub measured_id: [u8; 32],
@@ -147,7 +147,8 @@ pub fn digests_of(r: Record, built_in: [u8; 32]) -> Digests
     }
 }
 
-// Whether a digest is one of those that are allowed.
+// Whether a digest is one of those that are allowed. By `equal` and without a branch: with an early exit LLVM inlines less, and a byte costs
+// the firmware more than it may (docs/DECISIONS.md, 115).
 pub fn one_of(allowed: Digests, digest: [u8; 32]) -> bool
     ensures { result ≡ one_of allowed digest }
 {
