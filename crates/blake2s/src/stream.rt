@@ -1,5 +1,6 @@
 // RFC 7693, section 3.3, on a context. A block is compressed once a byte has come that stands behind it, so a full one waits.
 ghost use Rattle.std.specs.Prelude.{◌≡◌, true, cond, ◌++◌, ◌+◌, ◌*◌, ◌^◌, ◌<◌, ◌≤◌, length, take, drop};
+ghost use Rattle.std.proofs.Math.Seq.{paste};
 ghost use Rattle.endian.specs.Lists.{padded};
 ghost use Rattle.endian.specs.Endian.{word, first_bytes};
 ghost use Rattle.rfc7693.specs.Rfc7693.{words, F, initial, blake2s};
@@ -21,12 +22,24 @@ fn first_state(kk: usize, nn: usize) -> [u32; 8]
     h
 }
 
+// Writes s to b, from a place on. Not by `endian::put`, nor by numbers of 64 bits: of either LLVM makes a call of memcpy, which libdiagnosis.a
+// would then want from outside.
+fn copy(b: &mut [u8; 64], at: usize, s: &[u8])
+    requires { at + length s.now ≤ 64 }
+    ensures { b.new ≡ paste b.old at s.now (length s.now) }
+{
+    let at = at as u32;
+    for i in 0..s.len() as u32 {
+        b[(at + i) as usize] = s[i as usize];
+    }
+}
+
 // Leaves the first bytes of b, and behind them s and zeros.
 fn put_padded(b: &mut [u8; 64], at: usize, s: &[u8])
     requires { at + length s.now ≤ 64 }
     ensures { b.new ≡ padded 64 (take at b.old ++ s.now) }
 {
-    endian::put(b, at, s);
+    copy(b, at, s);
     b[at + s.len()..].fill(0);
 }
 
@@ -83,24 +96,43 @@ fn compress_blocks(h: &mut [u32; 8], t: u64, d: &[u8], n: usize, last: bool)
     }
 }
 
-// Takes s in, where n bytes came before it: compresses the blocks behind which a byte of s stands, and puts the rest in the block.
-fn absorb(h: &mut [u32; 8], block: &mut [u8; 64], n: u64, s: &[u8])
+// What no compression has taken: the bytes of the part behind the first `from`, which go to the block behind its first `at`.
+#[derive(Clone, Copy)]
+struct Rest {
+    at: usize,
+    from: usize,
+}
+
+// Compresses the blocks behind which a byte of s stands, where n bytes came before s. A function of its own, with one place behind it that
+// puts what is left in the block: where `at` was known to be 0, LLVM would call memcpy there.
+fn compress_full(h: &mut [u32; 8], block: &mut [u8; 64], n: u64, s: &[u8]) -> Rest
     requires { n + length s.now < 2 ^ 62 }
-    ensures { (h.new ≡ state_after h.old block.old n s.now) × (block.new ≡ block_after block.old n s.now) }
+    ensures { (h.new ≡ state_after h.old block.old n s.now) × (result.from ≤ length s.now) × (result.at + length s.now ≤ 64 + result.from) × (padded 64 (take result.at block.new ++ drop result.from s.now) ≡ block_after block.old n s.now) }
 {
     let at = waiting(n);
     let room = 64 - at;
     if s.len() <= room {
-        put_padded(block, at, s);
-        return;
+        return Rest { at, from: 0 };
     }
-    endian::put(block, at, &s[..room]);
+    copy(block, at, &s[..room]);
     let t = n + (room as u64);
     compress_blocks(h, t, block, 1, false);
     let rest = &s[room..];
     let k = before_final(rest.len());
     compress_blocks(h, t + 64, rest, k, false);
-    put_padded(block, 0, &rest[64 * k..]);
+    Rest {
+        at: 0,
+        from: room + 64 * k,
+    }
+}
+
+// Takes s in, where n bytes came before it.
+fn absorb(h: &mut [u32; 8], block: &mut [u8; 64], n: u64, s: &[u8])
+    requires { n + length s.now < 2 ^ 62 }
+    ensures { (h.new ≡ state_after h.old block.old n s.now) × (block.new ≡ block_after block.old n s.now) }
+{
+    let rest = compress_full(h, block, n, s);
+    put_padded(block, rest.at, &s[rest.from..]);
 }
 
 // Writes the hash of n bytes: the block that waits is the final one.

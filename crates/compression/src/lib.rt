@@ -3,7 +3,7 @@
 // scalars and no array in memory: docs/PROVING.md, "Why the hash is fast".
 #![tactic(auto)]
 
-ghost use Rattle.std.specs.Prelude.{◌≡◌, ◌+◌, ◌*◌, ◌<◌, ◌≤◌, drop, bit_xor, slice_index};
+ghost use Rattle.std.specs.Prelude.{◌≡◌, ◌+◌, ◌*◌, ◌<◌, ◌≤◌, drop, if◌then◌else◌, bit_xor, slice_index};
 ghost use Rattle.rfc7693.specs.Rfc7693.{sigma, added, xor_rotated, G, selected, rounds, work_vector, F};
 ghost use Rattle.compression.specs.Steps.{Places, four_mixings};
 
@@ -140,19 +140,38 @@ fn rounds(v: [u32; 16], m: &[u32; 16]) -> [u32; 16]
     two_rounds::<8>(v8, m)
 }
 
-// The working vector at the start; in the last block all bits of v[14] are inverted.
+// x, with all bits inverted for the last block.
+fn inverted_if(last: bool, x: u32) -> u32
+    ensures { result ≡ (if last then bit_xor x 4294967295 else x) }
+{
+    if last { x ^ 0xffffffff } else { x }
+}
+
+// The working vector at the start. Written out: filled by `copy_from_slice`, LLVM keeps it in memory, and the hash takes 8% more time.
 fn work_vector(h: [u32; 8], t: u64, last: bool) -> [u32; 16]
     ensures { result ≡ work_vector h t last }
 {
-    let mut v = [0; 16];
-    v[..8].copy_from_slice(&h);
-    v[8..].copy_from_slice(&IV);
-    v[12] ^= (t % 4294967296) as u32;
-    v[13] ^= (t / 4294967296) as u32;
-    if last {
-        v[14] ^= u32::MAX;
-    }
-    v
+    let iv = IV;
+    let lo = (t % 4294967296) as u32;
+    let hi = (t / 4294967296) as u32;
+    [
+        h[0],
+        h[1],
+        h[2],
+        h[3],
+        h[4],
+        h[5],
+        h[6],
+        h[7],
+        iv[0],
+        iv[1],
+        iv[2],
+        iv[3],
+        iv[4] ^ lo,
+        iv[5] ^ hi,
+        inverted_if(last, iv[6]),
+        iv[7],
+    ]
 }
 
 // The compression function F on the sixteen message words of a block.

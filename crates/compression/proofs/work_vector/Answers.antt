@@ -1,19 +1,12 @@
--- The array is the work vector as the code fills it.
+-- The array is the work vector written out (`laid_out`).
 use Rattle.std.proofs.Common.{◌≡◌, length, rules}
 use Rattle.rfc7693.specs.Rfc7693.{iv}
-use Rattle.compression.proofs.Steps.{filled}
+use Rattle.rfc7693.proofs.Vectors.{laid_out_is}
 use Rattle.compression.proofs.work_vector.Goals as goal
 
-pub returns-then-last : goal.returns-then-last
+pub returns : goal.returns
 unfolding iv
-returns-then-last c =
+returns c =
     let a = c.args in
     let l : length a.h ≡ 8 = search rules in
-    rw c.if-last.true (filled a.h a.t l c.copy_from_slice.ensures.after c.copy_from_slice-2.ensures.after).1
-
-pub returns-else-last : goal.returns-else-last
-unfolding iv
-returns-else-last c =
-    let a = c.args in
-    let l : length a.h ≡ 8 = search rules in
-    rw c.if-last.false (filled a.h a.t l c.copy_from_slice.ensures.after c.copy_from_slice-2.ensures.after).0
+    rw c.inverted_if.ensures (laid_out_is a.h a.t a.last l)
