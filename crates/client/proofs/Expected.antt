@@ -1,7 +1,6 @@
 -- What is expected of a reply, by its kind, and what is known of a reply that is expected.
 use Prim.Native.Nat.{ℕ, ◌+◌, ◌-◌, ◌<◌, ◌≤◌}
 use mathlib.Core.Path.{◌≡◌, refl, sym, ap, ◌∙◌}
-use mathlib.Core.Logic.{◌↔◌}
 use mathlib.Core.Bool.{Bool, true, false, not, cond, ◌&&◌}
 use mathlib.Core.List.{List, [], ◌∷◌}
 use native.Mathlib.Omega.{arith}
@@ -16,8 +15,7 @@ use Rattle.framing.specs.Answers.{status_number, fields_of}
 use Rattle.framing.specs.declared.ReplyHeader.{ReplyHeader}
 use Rattle.protocol.specs.Commands.{is_last}
 use Rattle.protocol.specs.Replies.{header_in, code_in, status_in}
-use Rattle.std.specs.Prelude.{All, None, Some}
-use Rattle.client.proofs.Zeros.{by_each}
+use Rattle.std.specs.Prelude.{None, Some}
 use Rattle.client.specs.Replies.{Expected, expected_reply, header_is, status_is, all_zero, filler_in, difference_in}
 use Rattle.client.specs.declared.Difference.TheVariants.{Header, Length, Code, Status, Filler}
 
@@ -78,12 +76,12 @@ passed x id r p = rw (p.header, eq-eqb _ _ p.whole, eq-eqb _ _ p.code, p.status,
 pub last_test : (x : Expected) (id : ℕ) (r : List ℕ) (h : ReplyHeader) (n : ℕ) (t : Bool)
     → fields_of (Some h) ≡ fields_at (header_in r) → h.id ≡ id → h.endpoint ≡ 2 → h.len ≡ x.len
     → length r ≡ 1 + x.len → code_in r ≡ x.code → status_in r ≡ status_number h.status
-    → n ≡ x.digest → (t ≡ true) ↔ All (λ b. b ≡ 0) (take (length r - (3 + n)) (drop (3 + n) r))
+    → n ≡ x.digest → t ≡ all_zero (take (length r - (3 + n)) (drop (3 + n) r))
     → difference_in x id r ≡ cond t None (Some Filler)
 unfolding difference_in
 last_test x id r h n t f i e l w c s d z =
     let filler : all_zero (filler_in x r) ≡ t =
-    rw (← d) (ap all_zero (drop-drop n 3 r ∙ sym (drop_whole (3 + n) r)) ∙ by_each (take (length r - (3 + n)) (drop (3 + n) r)) t z) in
+    rw (← d) (ap all_zero (drop-drop n 3 r ∙ sym (drop_whole (3 + n) r)) ∙ sym z) in
     rw (← f, eq-eqb _ _ i, eq-eqb _ _ e, eq-eqb _ _ l, eq-eqb _ _ w, eq-eqb _ _ c, eq-eqb _ _ s, filler) (by_last t)
   where
     by_last : (t : Bool) → cond (not t) (Some Filler) None ≡ cond t None (Some Filler)

@@ -1,33 +1,38 @@
 -- Bytes that are all zero, from a place on.
 use Prim.Native.Nat.{ℕ, zero, suc}
-use mathlib.Core.Path.{◌≡◌, refl, sym}
-use mathlib.Core.Logic.{◌↔◌}
+use mathlib.Core.Path.{◌≡◌, refl, sym, ap, ◌∙◌}
 use mathlib.Core.Bool.{Bool, true, false, ◌&&◌, and-eq-true_iff}
 use mathlib.Core.List.{List, [], ◌∷◌}
 use native.Mathlib.Omega.{arith}
 use lib.Dec.{eqb}
 use lib.ListN.{length, replicate}
-use borrow.Author.Tests.{eqb-true, eqb-false}
-use Rattle.std.specs.Prelude.{All}
+use borrow.Author.Tests.{eqb-true, ne_eqb}
+use Rattle.std.specs.List.{fold}
+use Rattle.std.specs.Int.Bits.{bit_or, or_zero_l}
+use Rattle.std.proofs.lemmas.Nat.{le_or_l}
 use Rattle.client.specs.Replies.{all_zero}
 
--- by what is known of each byte
-pub by_each : (l : List ℕ) (t : Bool) → (t ≡ true) ↔ All (λ b. b ≡ 0) l → all_zero l ≡ t
-by_each [] true h = refl
-by_each [] false h = sym (h.1 (λ k d p. absurd (omega arith)))
-by_each (x ∷ xs) t h = go (eqb x 0) refl (by_each xs)
+-- no bit is set in any of them
+pub zero_fold : (l : List ℕ) → eqb (fold bit_or 0 l) 0 ≡ all_zero l
+zero_fold l = go 0 l
   where
-    go : (z : Bool) → eqb x 0 ≡ z → ((u : Bool) → (u ≡ true) ↔ All (λ b. b ≡ 0) xs → all_zero xs ≡ u) → z && all_zero xs ≡ t
-    go true e rest = rest t (λ p k d l. h.0 p (suc k) d (omega arith), λ a. h.1 (each a))
+    each : (n x : ℕ) → eqb (bit_or n x) 0 ≡ eqb n 0 && eqb x 0
+    each zero x = ap (λ (y : ℕ). eqb y 0) (or_zero_l x)
+    each (suc n) x =
+        let l = le_or_l (suc n) x in
+        ne_eqb (bit_or (suc n) x) 0 (λ e. omega (arith, l, e)) ∙ ap (λ (t : Bool). t && eqb x 0) (sym (ne_eqb (suc n) 0 (λ e. omega (arith, e))))
+
+    go : (n : ℕ) (l : List ℕ) → eqb (fold bit_or n l) 0 ≡ eqb n 0 && all_zero l
+    go n [] = done (eqb n 0)
       where
-        each : All (λ b. b ≡ 0) xs → All (λ b. b ≡ 0) (x ∷ xs)
-        each a zero d l = eqb-true x 0 e
-        each a (suc k) d l = a k d (omega arith)
-    go false e rest = none t refl
+        done : (t : Bool) → t ≡ t && true
+        done true = refl
+        done false = refl
+    go n (x ∷ xs) = go (bit_or n x) xs ∙ ap (λ (t : Bool). t && all_zero xs) (each n x) ∙ assoc (eqb n 0)
       where
-        none : (u : Bool) → t ≡ u → false ≡ t
-        none true q = absurd (eqb-false x 0 e (h.0 q 0 0 (omega arith)))
-        none false q = sym q
+        assoc : (t : Bool) → (t && eqb x 0) && all_zero xs ≡ t && (eqb x 0 && all_zero xs)
+        assoc true = refl
+        assoc false = refl
 
 pub zeros_are : (l : List ℕ) → all_zero l ≡ true → l ≡ replicate (length l) 0
 zeros_are [] e = refl

@@ -64,8 +64,8 @@ difference_in x id r =
     (cond (not (all_zero (filler_in x r))) (Some Filler) None))))
 
 -- as a comparison ends
-abbrev pub difference_of : Result Taken Difference → Option Difference
-difference_of (Ok t) = None
+abbrev pub difference_of : {A : Type 0} → Result A Difference → Option Difference
+difference_of (Ok x) = None
 difference_of (Err d) = Some d
 
 -- then it is one whole frame with the expected header and code, a status of 0 or 1 that its header tells too, and zero filler

@@ -124,9 +124,14 @@ pub fn read_reply(len: usize, id: u8, k: u32, reply: &[u8]) -> Result<Taken, Ref
     ensures digest { IfOk result (λ t. is_some t.digest ≡ has_digest (expected_reply len k)) }
 {
     check(len, id, k)?;
-    Kind::of(len as u32, k)
+    let kind = Kind::of(len as u32, k);
+    let status = kind
         .compare(id, reply)
-        .map_err(|_| Refusal::UnexpectedReply)
+        .map_err(|_| Refusal::UnexpectedReply)?;
+    Ok(Taken {
+        status,
+        digest: kind.digest_in(reply),
+    })
 }
 
 // In what the reply to command frame k of a program of this length differs from the expected one, if it does. None where the program has no

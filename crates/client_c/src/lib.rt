@@ -46,7 +46,11 @@ pub extern "C" fn mastfrap_read_reply(
     match client::read_reply(len, id, k, reply) {
         Ok(taken) => {
             *status = taken.status.into();
-            *digest = taken.digest.unwrap_or([0; 32]);
+            // By a match: unwrap_or copies the digest once more.
+            match taken.digest {
+                Some(d) => *digest = d,
+                None => *digest = [0; 32],
+            }
             0
         }
         Err(why) => why.into(),

@@ -3,9 +3,13 @@ use Rattle.client.specs.Replies.{taking_into}
 use Rattle.client.proofs.Numbers.{refused_number}
 use Rattle.client_c.proofs.mastfrap_read_reply.Goals as goal
 
-pub returns-in-Ok : goal.returns-in-Ok
+pub returns-in-Some : goal.returns-in-Some
 unfolding taking_into
-returns-in-Ok c = rw (← c.read_reply.ensures.taking, c.in-Ok.is, c.into.ensures, c.unwrap_or.ensures)
+returns-in-Some c = rw (← c.read_reply.ensures.taking, c.in-Ok.is, c.into.ensures, c.in-Some.is)
+
+pub returns-in-None : goal.returns-in-None
+unfolding taking_into
+returns-in-None c = rw (← c.read_reply.ensures.taking, c.in-Ok.is, c.into.ensures, c.in-None.is)
 
 pub returns-in-Err : goal.returns-in-Err
 unfolding taking_into
