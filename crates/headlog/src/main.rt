@@ -3,6 +3,8 @@
 // hands over the bytes that it reads, in order, and writes each text. What cannot be written is lost: there is nobody to tell.
 #![tactic(auto)]
 
+use std::ops::ControlFlow;
+
 fn main(rt: HostRuntime) {
     let mut ram = [0u8; 32768];
     let mut front = [0u8; 296];
@@ -11,7 +13,7 @@ fn main(rt: HostRuntime) {
     let _ = text::write(&mut rt.stdout(), t.text);
     // One byte and no more at a time, so that a reply is out before the next is waited for. No `for`: after 2^64 turns it would end without the
     // last line.
-    while let Some(session) = t.session {
+    while let ControlFlow::Continue(session) = t.session {
         t = printer::advance(session, input::read_byte(&mut rt.stdin()), &mut ram);
         let _ = text::write(&mut rt.stdout(), t.text);
     }

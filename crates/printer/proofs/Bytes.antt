@@ -8,8 +8,8 @@ use Rattle.std.specs.Prelude.{Ok, Err}
 use Rattle.endian.proofs.Cases.{impossible}
 use Rattle.endian.specs.Lists.{zeros}
 use Rattle.head.specs.Answers.{Report, refused, continues, whole, stopped, started, reports_whole, report_of, refusal_number, cdi_in, Gathering, gathering_of}
-use Rattle.head.specs.State.{is_whole, ended}
-use Rattle.head.specs.Gather.{Step as Taken, taken, bad, after_step, byte_step, gather_refusal, gathered, with_incoming}
+use Rattle.head.specs.State.{is_whole}
+use Rattle.head.specs.Gather.{Step as Taken, taken, bad, after_step, byte_step, gather_refusal, gathered}
 use Rattle.head.specs.Act.{plain, acted}
 use Rattle.head.specs.declared.Step.{Step}
 use Rattle.head.specs.declared.State.{State}
@@ -22,7 +22,6 @@ use Rattle.text.specs.Text.{text_of}
 use Rattle.printer.specs.Output.{after_byte}
 use Rattle.printer.specs.Turns.{turn_of, going, unreplied_turn}
 use Rattle.printer.specs.declared.turns.Session.{Session}
-use Rattle.printer.specs.declared.turns.Turn.{Turn}
 
 abbrev is_start : Report → Bool
 is_start (refused k) = false

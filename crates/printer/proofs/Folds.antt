@@ -2,7 +2,7 @@
 use Prim.Native.Nat.{ℕ, ◌+◌, ◌-◌, ◌^◌, ◌<◌, ◌≤◌}
 use native.Mathlib.Omega.{arith}
 use mathlib.Core.Bool.{Bool, true, false, cond}
-use Rattle.std.specs.Prelude.{None, Some}
+use Rattle.std.specs.declared.ops.ControlFlow.TheVariants.{Continue, Break}
 use mathlib.Core.Path.{◌≡◌, refl, sym, ap, ◌∙◌}
 use mathlib.Core.List.{List, [], ◌∷◌, ◌++◌, append-nil}
 use lib.Dec.{eqb, ltb}
@@ -23,7 +23,7 @@ loop_is : (bytes : List ℕ) (o : Outcome) (n : ℕ) → Short o → n + length 
 loop_is [] o n s h =
     rw (texts.written (call_text o) (call_short o s)) (go (is_over o.report))
   where
-    go : (t : Bool) → behind (call_text o) (goes [] (cond t None (Some (record { state = o.state; words = o.uds; received = n }))) o.ram (296 + n))
+    go : (t : Bool) → behind (call_text o) (goes [] (cond t (Break (record { state = o.state; words = o.uds; received = n })) (Continue (record { state = o.state; words = o.uds; received = n }))) o.ram (296 + n))
         ≡ record { printed = call_text o ++ cond t [] (waiting_line n); read = 296 + n }
     go true = refl
     go false = rw (texts.written (waiting_line n) (waiting_short n))
@@ -38,7 +38,7 @@ loop_is (b ∷ bytes) o n s h =
         → loop (turn_of (n + 1) (after_byte o.state o.uds o.ram b)) (after_byte o.state o.uds o.ram b).ram (296 + (n + 1)) bytes
         ≡ output_from (after_byte o.state o.uds o.ram b) (n + 1) bytes
         → (t : Bool)
-        → behind (call_text o) (goes (b ∷ bytes) (cond t None (Some (record { state = o.state; words = o.uds; received = n }))) o.ram (296 + n))
+        → behind (call_text o) (goes (b ∷ bytes) (cond t (Break (record { state = o.state; words = o.uds; received = n })) (Continue (record { state = o.state; words = o.uds; received = n }))) o.ram (296 + n))
         ≡ cond t (record { printed = call_text o; read = 296 + n })
         (behind (call_text o) (output_from (after_byte o.state o.uds o.ram b) (n + 1) bytes))
     go e a next true = rw append-nil

@@ -3,11 +3,13 @@ ghost use Rattle.std.specs.Prelude.{◌≡◌, Some};
 ghost use Rattle.endian.specs.Lists.{zeros};
 ghost use Rattle.head.specs.Answers.{report_of};
 ghost use Rattle.head.specs.Act.{acted};
-ghost use Rattle.printer.specs.Turns.{turn_of, going, refused_turn, unreplied_turn, begin_turn, opening, turned, ram_after, waited};
+ghost use Rattle.printer.specs.Turns.{turn_of, left, going, refused_turn, unreplied_turn, begin_turn, opening, turned, ram_after, waited};
 
 use super::input;
 use super::lines::{Ending, Reply};
+use head::Phase;
 use loader::{Acted, Answer, Refusal, State, Step};
+use std::ops::ControlFlow;
 use text::Text;
 
 // A head between two bytes, with its device secret.
@@ -19,11 +21,11 @@ pub struct Session {
     pub received: u64,
 }
 
-// What is to be written now, and the session that the next turn goes on with; None if that is all.
+// What is to be written now, and the session that is left: the next turn goes on with it, or that is all and it has ended so.
 #[derive(Clone, Copy)]
 pub struct Turn {
     pub text: Text,
-    pub session: Option<Session>,
+    pub session: ControlFlow<Session, Session>,
 }
 
 // The first turn: of the first 296 bytes of the input so many were got, and zeros stand for the others. Only a RAM that no head can have is
@@ -32,13 +34,24 @@ pub fn open(front: [u8; 296], got: usize, ram: &mut [u8]) -> Turn
     ensures turn { result ≡ opening front got ram.old }
     ensures ram { ram.new ≡ ram.old }
 {
+    let turn = begin(front, ram);
     if got < 296 {
         return Turn {
             text: Text::of("E 1\n"),
-            session: None,
+            session: ControlFlow::Break(left(turn)),
         };
     }
-    begin(front, ram)
+    turn
+}
+
+// The session that a turn leaves.
+fn left(turn: Turn) -> Session
+    ensures { result ≡ left turn.session }
+{
+    match turn.session {
+        ControlFlow::Continue(session) => session,
+        ControlFlow::Break(session) => session,
+    }
 }
 
 // Begins with record, UDS and UDI; nothing is in flash, so RAM stays.
@@ -56,17 +69,24 @@ fn begin(front: [u8; 296], ram: &mut [u8]) -> Turn
             };
             after(session, answer)
         }
-        Err(why) => refused(why),
+        Err(why) => {
+            let session = Session {
+                state: head::ended(Phase::Stopped, 1),
+                words,
+                received: 0,
+            };
+            refused(session, why)
+        }
     }
 }
 
 // The turn of a call that is refused.
-fn refused(why: Refusal) -> Turn
-    ensures { result ≡ refused_turn why }
+fn refused(session: Session, why: Refusal) -> Turn
+    ensures { result ≡ refused_turn session why }
 {
     Turn {
         text: Text::of(Ending(Err(why))),
-        session: None,
+        session: ControlFlow::Break(session),
     }
 }
 
@@ -80,18 +100,18 @@ fn after(session: Session, answer: Answer) -> Turn
     }
 }
 
-// The session, unless the answer ends it.
-fn going(session: Session, answer: Answer) -> Option<Session>
+// The session goes on after an answer, or has ended with it.
+fn going(session: Session, answer: Answer) -> ControlFlow<Session, Session>
     ensures { result ≡ going (report_of answer) session }
 {
     match answer {
-        Answer::Continue | Answer::Whole => Some(session),
-        Answer::Stopped(_) | Answer::Started(_) => None,
+        Answer::Continue | Answer::Whole => ControlFlow::Continue(session),
+        Answer::Stopped(_) | Answer::Started(_) => ControlFlow::Break(session),
     }
 }
 
 // Every other turn, by the byte that is received, none at the end of the input, and with the RAM that the turn before left. Of a session from
-// `open`, a call is refused only where RAM has another length; it is then printed as `E` and the number.
+// `open`, a call is refused only where RAM has another length or the session has ended; it is then printed as `E` and the number.
 pub fn advance(s: Session, byte: Option<u8>, ram: &mut [u8]) -> Turn
     ensures turn { result ≡ turned s byte ram.old }
     ensures ram { ram.new ≡ ram_after s byte ram.old }
@@ -108,7 +128,7 @@ fn wait(s: Session) -> Turn
 {
     Turn {
         text: Text::of(("W ", s.received, "\n")),
-        session: None,
+        session: ControlFlow::Break(s),
     }
 }
 
@@ -121,19 +141,19 @@ fn receive(s: Session, byte: u8, ram: &mut [u8]) -> Turn
     if s.received == u64::MAX {
         return wait(s);
     }
+    let heard = Session {
+        received: s.received + 1,
+        ..s
+    };
     match loader::gather(s.state, byte) {
         Ok(Step { answer, state }) => {
-            let session = Session {
-                state,
-                received: s.received + 1,
-                ..s
-            };
+            let session = Session { state, ..heard };
             match answer {
                 Answer::Whole => act(session, ram),
                 answer => after(session, answer),
             }
         }
-        Err(why) => refused(why),
+        Err(why) => refused(heard, why),
     }
 }
 
@@ -158,6 +178,6 @@ fn act(s: Session, ram: &mut [u8]) -> Turn
                 session: going(session, answer),
             }
         }
-        Err(why) => refused(why),
+        Err(why) => refused(Session { words, ..s }, why),
     }
 }

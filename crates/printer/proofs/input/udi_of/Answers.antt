@@ -1,5 +1,5 @@
 -- The last eight bytes are all that stands behind the first 288.
-use Rattle.std.proofs.Common.{◌≡◌, ◌∙◌, ◌+◌, ◌≤◌, arith, rules, length, drop}
+use Rattle.std.proofs.Common.{◌≡◌, ◌∙◌, arith, rules, length, drop}
 use lib.ListN.{length-drop}
 use lib.Seq.{take_all}
 use Rattle.printer.proofs.input.udi_of.Goals as goal

@@ -3,10 +3,10 @@ use Prim.Native.Nat.{ℕ}
 use mathlib.Core.Path.{◌≡◌, ap, ◌∙◌}
 use mathlib.Core.List.{List, []}
 use lib.ListN.{take, drop}
-use Rattle.head.specs.Answers.{Result, result_of, replied}
+use Rattle.head.specs.Answers.{Result, replied}
 use Rattle.head.specs.Begin.{beginning}
 use Rattle.printer.specs.Output.{words_in, no_flash, after_begin}
-use Rattle.printer.specs.Turns.{turn_of, begin_turn}
+use Rattle.printer.specs.Turns.{turn_of, refused_turn, begin_turn}
 use Rattle.printer.proofs.NoFlash.{ram_stays}
 use Rattle.printer.proofs.turns.begin.Goals as goal
 
@@ -30,7 +30,8 @@ returns-in-Ok-clause-ram c =
 pub returns-in-Err-clause-turn : goal.returns-in-Err-clause-turn
 returns-in-Err-clause-turn c =
     let e = rw c.in-Err.is at c.begin.ensures in
-    c.refused.ensures ∙ (begun c.args.front c.args.ram.now _ _ c.words_of-words.ensures e).0
+    c.refused.ensures ∙ ap (λ s. refused_turn (record { state = s; words = c.begin.new.words; received = 0 }) c.in-Err.why) c.ended.ensures
+    ∙ (begun c.args.front c.args.ram.now _ _ c.words_of-words.ensures e).0
 
 pub returns-in-Err-clause-ram : goal.returns-in-Err-clause-ram
 returns-in-Err-clause-ram c =

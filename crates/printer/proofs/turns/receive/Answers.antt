@@ -1,7 +1,7 @@
 -- Whether the byte makes a frame whole decides which call settles the turn.
 use Prim.Native.Nat.{◌-◌, ◌^◌}
-use mathlib.Core.Path.{◌≡◌, refl, ◌∙◌}
-use borrow.Author.Tests.{eq-eqb, ne_eqb}
+use mathlib.Core.Path.{◌∙◌}
+use borrow.Author.Tests.{ne_eqb}
 use Rattle.printer.proofs.Bytes.{no_cdi, acts, others, refusals, quiet}
 use Rattle.printer.proofs.turns.receive.Goals as goal
 
