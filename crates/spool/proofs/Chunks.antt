@@ -80,6 +80,13 @@ uses_are s = ap flatten (map_each used_in (blocks_in s) (block_at s))
 
 -- ---- a reader
 
+-- at a place, and behind the last block
+pub verdict_at : (bs : List (List ℕ)) (i : ℕ) (b : List ℕ) → i < length bs → verdicts_from bs i ≡ block_refusal (length bs) i (get_or bs i b) ∷ verdicts_from bs (i + 1)
+verdict_at bs i b h = rw add-one (ap (verdicts (length bs) i) (drop-cons bs i b h))
+
+pub verdict_behind : (bs : List (List ℕ)) (i : ℕ) → length bs ≤ i → verdicts_from bs i ≡ []
+verdict_behind bs i h = ap (verdicts (length bs) i) (drop_of_length-le bs {i = i} h)
+
 drop_each : (i m : ℕ) (g : ℕ → List ℕ) → i < m → drop i (each m g) ≡ g i ∷ drop (suc i) (each m g)
 drop_each i m g h = drop-cons (each m g) i [] (rw length_each h) ∙ ap (λ (b : List ℕ). b ∷ drop (suc i) (each m g)) (get_or_each m g [] i h)
 

@@ -14,7 +14,7 @@ use borrow.Author.Tests.{ltb-true, ltb-false}
 use Rattle.std.specs.Prelude.{Some, None, find}
 use Rattle.spool_block.specs.Block.{is_good}
 use Rattle.spool.specs.Reading.{blocks_in, block_at}
-use Rattle.spool.specs.Salvage.{blocks_of, first_good, Mended, kept, replaced_by, mended, mended_at}
+use Rattle.spool.specs.Salvage.{blocks_of, first_good, Mended, kept, replaced_by, mended}
 use Rattle.spool.proofs.Firsts.{first_good_is, first_none}
 
 pub block_whole : (s : List ℕ) (i : ℕ) → i < blocks_in s → length (block_at s i) ≡ 512

@@ -4,9 +4,9 @@ use mathlib.Core.List.{List, [], ◌∷◌, ◌++◌, append-nil, append_assoc}
 use mathlib.Core.Path.{◌≡◌, refl, sym, ap, ◌∙◌}
 use native.Mathlib.Omega.{arith}
 use native.Mathlib.Numerals.{add-one}
-use lib.ListN.{length, take, drop, get_or, set, length-append, length-drop, take-append-drop}
+use lib.ListN.{length, drop, get_or, set, length-append, length-drop}
 use Rattle.std.proofs.lemmas.List.Edits.{paste_all}
-use lib.Seq.{paste, drop-drop, drop-length, length-take-le, drop-cons, append_snoc, take-append_seam, drop-append_seam, set-append_seam}
+use lib.Seq.{paste, drop-drop, drop-length, drop-cons, append_snoc, take-append_seam, drop-append_seam, set-append_seam}
 use Rattle.endian.specs.Lists.{put_at}
 use Rattle.endian.proofs.Lists.{put_fits}
 use Rattle.protocol.specs.Replies.{put_in}

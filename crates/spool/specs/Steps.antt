@@ -1,5 +1,5 @@
 -- What only the promises of private functions cite. No public promise and no theorem rests on it.
-use Rattle.std.specs.Prelude.{ℕ, suc, length, drop, map}
+use Rattle.std.specs.Prelude.{ℕ, suc, ◌+◌, cond, ltb, length, drop, map}
 use mathlib.Core.List.{List, [], ◌∷◌, flatten}
 use Rattle.spool_block.specs.Block.{used_in, block_refusal}
 
@@ -11,6 +11,10 @@ verdicts n i (b ∷ bs) = block_refusal n i b ∷ verdicts n (suc i) bs
 -- what those of a spool give from a place on
 abbrev pub verdicts_from : List (List ℕ) → ℕ → List ℕ
 verdicts_from bs i = verdicts (length bs) i (drop i bs)
+
+-- the place behind place i; behind the last block there is none
+unfoldable pub place_after : List (List ℕ) → ℕ → ℕ
+place_after bs i = cond (ltb i (length bs)) (i + 1) i
 
 -- what blocks use, one after the other
 abbrev pub uses_of : List (List ℕ) → List ℕ

@@ -5,7 +5,7 @@ ghost use Rattle.protocol.specs.Replies.{put_in};
 ghost use Rattle.spool_block.specs.Block.{number_of};
 ghost use Rattle.spool.specs.Reading.{earliest, bad_length};
 ghost use Rattle.spool.specs.Salvage.{blocks_of};
-ghost use Rattle.spool.specs.Steps.{verdicts_from, uses_of};
+ghost use Rattle.spool.specs.Steps.{verdicts_from, place_after, uses_of};
 
 use crate::Refusal;
 use spool_block::Fault;
@@ -36,11 +36,11 @@ impl<'a> Reader<'a> {
     }
 }
 
-// It goes from block to block, and tests each at its place.
+// It goes from block to block, and tests each at its place. Behind the last block it gives nothing, and stays; its blocks are the same ever.
 impl<'a> Iterator for Reader<'a> {
     type Item = Result<(), Fault>;
 
-    ghost next_gives = { YieldsFirstBy number_of (λ r. verdicts_from r.blocks.now r.place) };
+    ghost next_gives = { λ r v q. YieldsFirstBy number_of (λ r. verdicts_from r.blocks.now r.place) r v q × (q.blocks ≡ r.blocks) × (q.place ≡ place_after r.blocks.now r.place) };
 
     ghost remaining = { item_count (λ r. verdicts_from r.blocks.now r.place) };
 

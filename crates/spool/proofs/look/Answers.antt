@@ -19,7 +19,7 @@ returns-in-None c =
     let i = c.args.place in
     let ok = c.in_ok-blocks.ensures in
     let start = ap₂ (λ b p. verdicts_from b.now p) c.at.ensures.0 c.at.ensures.1 ∙ ap (λ b. verdicts_from b i) ok.1 in
-    sym (look_none c.args.spool.now i ok.0 (sym start ∙ c.in-None.ensures.steps.0))
+    sym (look_none c.args.spool.now i ok.0 (sym start ∙ c.in-None.ensures.steps.0.0))
 
 pub returns-in_err-verdict-in-Some : goal.returns-in_err-verdict-in-Some
 returns-in_err-verdict-in-Some c =
@@ -31,7 +31,7 @@ returns-in_err-verdict-in-Some c =
     let r = c.next.new.self in
     let rest = verdicts_from r.blocks.now r.place in
     let head = ap (λ (v : Result Unit Fault). fault_of v ∷ rest) c.in_err-verdict-in-Some.was in
-    ap number_of e ∙ sym (look_head c.args.spool.now i ok.0 _ rest (sym start ∙ c.in-Some.ensures.steps ∙ head))
+    ap number_of e ∙ sym (look_head c.args.spool.now i ok.0 _ rest (sym start ∙ c.in-Some.ensures.steps.0 ∙ head))
 
 pub returns-in_ok-verdict-in-Some : goal.returns-in_ok-verdict-in-Some
 returns-in_ok-verdict-in-Some c =
@@ -41,4 +41,4 @@ returns-in_ok-verdict-in-Some c =
     let r = c.next.new.self in
     let rest = verdicts_from r.blocks.now r.place in
     let head = ap (λ (v : Result Unit Fault). fault_of v ∷ rest) c.in_ok-verdict-in-Some.was in
-    sym (look_head c.args.spool.now i ok.0 _ rest (sym start ∙ c.in-Some.ensures.steps ∙ head))
+    sym (look_head c.args.spool.now i ok.0 _ rest (sym start ∙ c.in-Some.ensures.steps.0 ∙ head))

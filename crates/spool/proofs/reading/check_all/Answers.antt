@@ -16,7 +16,7 @@ pub loop-verdict-preserved : goal.loop-verdict-preserved
 loop-verdict-preserved c =
     let r = c.next.new.self in
     let rest = verdicts_from r.blocks.now r.place in
-    let now = ap earliest c.in-Some.ensures.steps in
+    let now = ap earliest c.in-Some.ensures.steps.0 in
     let good = ap (λ (v : Result Unit Fault). earliest (number_of v ∷ rest)) c.in_ok-verdict.was in
     sym (now ∙ good ∙ zero_first rest) ∙ c.loop-verdict.invariant
 
@@ -26,9 +26,9 @@ returns-in_err-verdict c =
     let e : c.from_residual.result ≡ Err f = search rules in
     let r = c.next.new.self in
     let rest = verdicts_from r.blocks.now r.place in
-    let now = ap earliest c.in-Some.ensures.steps in
+    let now = ap earliest c.in-Some.ensures.steps.0 in
     let bad = ap (λ (v : Result Unit Fault). earliest (number_of v ∷ rest)) c.in_err-verdict.was in
     ap number_of e ∙ sym (now ∙ bad ∙ fault_first f rest) ∙ c.loop-verdict.invariant
 
 pub returns : goal.returns
-returns c = sym none_first ∙ sym (ap earliest c.in-None.ensures.steps.0) ∙ c.loop-verdict.invariant
+returns c = sym none_first ∙ sym (ap earliest c.in-None.ensures.steps.0.0) ∙ c.loop-verdict.invariant

@@ -5,7 +5,7 @@ use Rattle.spool_block.specs.Block.{used_in}
 use Rattle.spool.specs.Steps.{uses_of}
 use Rattle.spool.proofs.Chunks.{uses_none, uses_more, uses_most}
 use Rattle.spool.proofs.Parts.{used_most}
-use Rattle.spool.proofs.Rooms.{paste_put, put_none, put_length, put_next}
+use Rattle.spool.proofs.Rooms.{put_none, put_length, put_next}
 use Rattle.spool.proofs.reading.gather.Goals as goal
 
 -- so many bytes have come of i blocks

@@ -1,17 +1,16 @@
 -- A block has 512 bytes, so the next stands where a turn pastes it (`put_next`).
 use Prim.Native.Nat.{ℕ, ◌+◌, ◌*◌, ◌≤◌}
 use mathlib.Core.List.{List}
-use mathlib.Core.Path.{◌≡◌, sym, ◌∙◌}
+use mathlib.Core.Path.{◌≡◌, sym}
 use native.Mathlib.Omega.{arith}
 use lib.ListN.{length, length-take}
 use Rattle.endian.proofs.Lists.{drop_whole}
-use Rattle.protocol.specs.Replies.{put_in}
 use Rattle.spool_block.specs.Making.{block_of}
 use Rattle.spool_block.proofs.Made.{block_length}
 use Rattle.spool.specs.Reading.{part}
 use Rattle.spool.specs.Writing.{spool_blocks, spool_of}
 use Rattle.spool.proofs.Parts.{front, front_none, front_more, front_length}
-use Rattle.spool.proofs.Rooms.{paste_put, put_none, put_length, put_next}
+use Rattle.spool.proofs.Rooms.{put_none, put_next}
 use Rattle.spool.proofs.writing.spread.Goals as goal
 
 abbrev blocks : List ℕ → ℕ → List ℕ
