@@ -2,8 +2,7 @@
 """Makes an LLVM module of the Rattle compiler, which is for x86-64, one for riscv32: retarget.py [--test] < MODULE.ll > OUT.ll
 
 The two lines that name the target are replaced, the attributes that only x86-64 has are dropped, and every function is to be small.
-Some functions stay functions, however much is inlined. An address that is taken for a number of 64 bits is extended to one. A pair
-with a pointer behind is loaded part by part: the module has the pointer at byte 8, where the pair of riscv32 has it at byte 4.
+Some functions stay functions, however much is inlined. An address that is taken for a number of 64 bits is extended to one.
 
 Then each function's pointers get an alignment. The module does not say any, since x86-64 reads a word from every address; the
 compiler for riscv32 must take it that a pointer is aligned to nothing, and copies what is behind it byte by byte. An argument
@@ -27,7 +26,6 @@ MOST = 16  # an alignment that none is above
 NAME = r'@("[^"]+"|[\w.$]+)'
 DEFINE = re.compile(rf"define (.*?){NAME}\((.*?)\)")
 CALL = re.compile(rf".*\bcall [^@%]*{NAME}\((.*)\)")
-PAIR = re.compile(r"\s*(%\w+) = load { (i\d+|ptr), ptr }, ptr (%\w+), align 8$")
 LOCAL = re.compile(r"\s*(%\w+) = alloca .*, align (\d+)")
 
 
@@ -84,15 +82,6 @@ class Module:
         return known
 
 
-def in_parts(name, front, place):
-    """The pair at a place, with a pointer at byte 8."""
-    return f"""  {name}.front = load {front}, ptr {place}, align 8
-  {name}.place = getelementptr i8, ptr {place}, i64 8
-  {name}.behind = load ptr, ptr {name}.place, align 8
-  {name}.half = insertvalue {{ {front}, ptr }} poison, {front} {name}.front, 0
-  {name} = insertvalue {{ {front}, ptr }} {name}.half, ptr {name}.behind, 1"""
-
-
 def retargeted(line, known):
     for key, value in TARGET.items():
         if line.startswith(key):
@@ -100,8 +89,7 @@ def retargeted(line, known):
     if m := DEFINE.match(line):
         line = re.sub(r"\bptr noundef (%\w+)", lambda p: f"ptr noundef align {known[m[2], p[1]]} {p[1]}", line)
         return line.replace(" #", " noinline #") if m[2] in CALLED else line
-    if m := PAIR.match(line):
-        return in_parts(*m.groups())
+    # riscv32 would read the pointer of a pair { i8, ptr } at byte 4, where the module has it at byte 8.
     if re.search(r"\b(load|store) {[^}]*, ptr\b", line):
         sys.exit(f"retarget: a struct with a pointer that is not in front: {line.strip()}")
     return line.replace(ATTRIBUTES, "optsize").replace("= ptrtoaddr ptr", "= ptrtoint ptr")

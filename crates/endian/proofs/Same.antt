@@ -1,13 +1,13 @@
 -- Lists of bytes compared.
-use Prim.Native.Nat.{ℕ}
+use Prim.Native.Nat.{ℕ, ◌+◌, ◌<◌}
 use mathlib.Core.Bool.{Bool, true, false, ◌&&◌}
 use mathlib.Core.List.{List, [], ◌∷◌}
 use mathlib.Core.Path.{◌≡◌, refl, ap, ◌∙◌}
 use mathlib.Core.Logic.{◌↔◌}
+use native.Mathlib.Numerals.{add-one}
 use lib.Dec.{eqb}
-use native.Mathlib.Omega.{arith}
-use Rattle.std.specs.List.{fold, zip}
-use lib.ListN.{length}
+use lib.ListN.{length, get_or, drop}
+use lib.Seq.{drop-cons, drop-length}
 use borrow.Author.Tests.{eq-eqb, eqb-true}
 use Rattle.endian.proofs.Cases.{impossible}
 use Rattle.endian.specs.Lists.{same}
@@ -36,11 +36,19 @@ same_length xs ys h = go (same xs ys) refl
     go true p = absurd (h (ap length (same_eq xs ys p)))
     go false p = refl
 
--- a fold that compares: r says whether the bytes before are equal
-pub same_fold : (r : Bool) (xs ys : List ℕ) → length xs ≡ length ys → fold (λ s p. s && eqb p.0 p.1) r (zip xs ys) ≡ r && same xs ys
-same_fold true [] [] e = refl
-same_fold false [] [] e = refl
-same_fold r [] (y ∷ ys) e = absurd (omega arith)
-same_fold r (x ∷ xs) [] e = absurd (omega arith)
-same_fold true (x ∷ xs) (y ∷ ys) e = same_fold (eqb x y) xs ys (omega arith)
-same_fold false (x ∷ xs) (y ∷ ys) e = same_fold false xs ys (omega arith)
+-- a turn of a loop that compares: r says whether the bytes so far are equal
+pub same_more : (r : Bool) (xs ys : List ℕ) (i : ℕ) → i < length xs → i < length ys
+    → (r && eqb (get_or xs i 0) (get_or ys i 0)) && same (drop (i + 1) xs) (drop (i + 1) ys) ≡ r && same (drop i xs) (drop i ys)
+same_more true xs ys i h k = rw (add-one, drop-cons xs i 0 h, drop-cons ys i 0 k)
+same_more false xs ys i h k = refl
+
+-- behind the last byte
+pub same_end : (r : Bool) (xs ys : List ℕ) (i : ℕ) → i ≡ length xs → i ≡ length ys → r && same (drop i xs) (drop i ys) ≡ r
+same_end r xs ys i e f =
+    let a : drop i xs ≡ [] = rw e (drop-length xs) in
+    let b : drop i ys ≡ [] = rw f (drop-length ys) in
+    rw (a, b) (go r)
+  where
+    go : (r : Bool) → r && true ≡ r
+    go true = refl
+    go false = refl

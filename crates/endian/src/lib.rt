@@ -1,8 +1,7 @@
 // Words of 32 bits as four bytes, lowest byte first, and parts of what is lent.
 #![tactic(auto)]
 
-ghost use Rattle.std.specs.Prelude.{◌≡◌, ◌+◌, ◌≤◌, ◌/◌, ◌%◌, true, ◌&&◌, eqb, get_or, length, take, drop};
-ghost use Rattle.std.specs.List.{fold, zip};
+ghost use Rattle.std.specs.Prelude.{◌≡◌, ◌+◌, ◌≤◌, ◌/◌, ◌%◌, get_or, length, take, drop};
 ghost use Rattle.std.proofs.Math.Seq.{paste};
 ghost use Rattle.endian.specs.Lists.{zeros, padded, put_at, same};
 ghost use Rattle.endian.specs.Endian.{word, byte_of, first_bytes};
@@ -80,21 +79,19 @@ pub fn put(out: &mut [u8], from: usize, x: &[u8])
     }
 }
 
-// Whether no two bytes at the same place differ. Each is looked at, wherever they differ: without an early exit what calls this is small enough
-// for LLVM to inline (docs/PROVING.md).
-fn alike(a: &[u8], b: &[u8]) -> bool
-    ensures { result ≡ fold (λ so_far p. so_far && eqb p.0 p.1) true (zip a.now b.now) }
-{
-    a.iter()
-        .zip(b)
-        .fold(true, |so_far, (x, y)| so_far & (*x == *y))
-}
-
-// Whether two slices hold the same bytes.
+// Whether two slices hold the same bytes. Each is looked at, wherever they differ: without an early exit what calls this is small enough
+// for LLVM to inline. By place, since what an iterator over bytes gives is a pair with a pointer in LLVM's module (both: docs/PROVING.md).
 pub fn equal(a: &[u8], b: &[u8]) -> bool
     ensures { result ≡ same a.now b.now }
 {
-    a.len() == b.len() && alike(a, b)
+    if a.len() != b.len() {
+        return false;
+    }
+    let mut so_far = true;
+    for i in 0..a.len() {
+        so_far = so_far & (a[i] == b[i]);
+    }
+    so_far
 }
 
 // The first n bytes, or all if there are fewer.

@@ -1,4 +1,3 @@
 pub mod Copies
 pub mod Slots
 pub mod Steps
-pub mod Rooms

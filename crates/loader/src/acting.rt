@@ -22,8 +22,9 @@ fn stop(why: Stop, s: State) -> Acted
 }
 
 // A reply, after which the session goes on.
-fn answer(s: State, progress: Progress, r: Reply, room: &mut [u8; 129]) -> Acted
-    requires { r.len ≤ 128 }
+fn answer(s: State, progress: Progress, r: Reply, room: &mut [u8]) -> Acted
+    requires in_bounds { 129 ≤ length room.old }
+    requires len_bound { r.len ≤ 128 }
     ensures { Replies result r (between s progress) room.old room.new }
 {
     super::memory::put(room, r);
@@ -39,14 +40,16 @@ fn answer(s: State, progress: Progress, r: Reply, room: &mut [u8; 129]) -> Acted
 }
 
 // A query for the name.
-fn answer_name(s: State, room: &mut [u8; 129]) -> Acted
+fn answer_name(s: State, room: &mut [u8]) -> Acted
+    requires { 129 ≤ length room.old }
     ensures { Replies result (name_reply s.incoming.header) (between s s.progress) room.old room.new }
 {
     answer(s, s.progress, protocol::name_reply(s.incoming.header), room)
 }
 
 // A query for the device's identity (UDI).
-fn answer_udi(s: State, room: &mut [u8; 129]) -> Acted
+fn answer_udi(s: State, room: &mut [u8]) -> Acted
+    requires { 129 ≤ length room.old }
     ensures { Replies result (udi_reply s.incoming.header s.config.udi) (between s s.progress) room.old room.new }
 {
     let udi = s.config.udi;
@@ -59,7 +62,8 @@ fn answer_udi(s: State, room: &mut [u8; 129]) -> Acted
 }
 
 // A load: one that is not taken changes nothing.
-fn act_load(s: State, room: &mut [u8; 129]) -> Acted
+fn act_load(s: State, room: &mut [u8]) -> Acted
+    requires { 129 ≤ length room.old }
     ensures { Replies result (load_answer s) (between s (after_load s)) room.old room.new }
 {
     let l = protocol::read_load(Frame::from(s.incoming));
@@ -83,8 +87,10 @@ fn replied(x: Step) -> Acted
 }
 
 // After the last block the program is measured, its digest is given, and the head starts or stops.
-fn finish(s: State, room: &mut [u8; 129], ram: &mut [u8], uds: &mut [u32; 8]) -> Acted
-    requires { (s.progress.size ≤ length ram.old) × (s.progress.size ≤ longest) }
+fn finish(s: State, room: &mut [u8], ram: &mut [u8], uds: &mut [u32]) -> Acted
+    requires in_bounds { 129 ≤ length room.old }
+    requires size_in_bounds { (s.progress.size ≤ length ram.old) × (s.progress.size ≤ longest) }
+    requires uds_len { length uds.old ≡ 8 }
     ensures { outcome_in result room.new ram.new uds.new ≡ finished s room.old ram.old uds.old }
 {
     let n = s.progress.size as usize;
@@ -94,9 +100,11 @@ fn finish(s: State, room: &mut [u8; 129], ram: &mut [u8], uds: &mut [u32; 8]) ->
 }
 
 // A block.
-fn act_block(s: State, room: &mut [u8; 129], ram: &mut [u8], uds: &mut [u32; 8]) -> Acted
+fn act_block(s: State, room: &mut [u8], ram: &mut [u8], uds: &mut [u32]) -> Acted
+    requires in_bounds { 129 ≤ length room.old }
     requires ram_value { loading_ok s.progress (length ram.old) ≡ true }
     requires ram_len_bound { length ram.old ≤ longest }
+    requires uds_len { length uds.old ≡ 8 }
     ensures { outcome_in result room.new ram.new uds.new ≡ acted_block s room.old ram.old uds.old }
 {
     let p = s.progress;
@@ -113,9 +121,12 @@ fn act_block(s: State, room: &mut [u8; 129], ram: &mut [u8], uds: &mut [u32; 8])
 
 // A whole frame of a call that is not refused. That RAM is short stays a `requires`, here and in three functions more: a struct of the lent RAM
 // with this as a ghost field is not covered where it is passed on ("a parameter that holds a `&mut [T]` which the caller gets back").
-pub fn perform(s: State, room: &mut [u8; 129], ram: &mut [u8], uds: &mut [u32; 8]) -> Acted
+// So do the lengths of room and secret, here and in what this calls: an array of a lent slice is a pair with a pointer (docs/PROVING.md).
+pub fn perform(s: State, room: &mut [u8], ram: &mut [u8], uds: &mut [u32]) -> Acted
     requires ram_value { progress_ok s.progress (length ram.old) ≡ true }
+    requires in_bounds { 129 ≤ length room.old }
     requires ram_len_bound { length ram.old ≤ longest }
+    requires uds_len { length uds.old ≡ 8 }
     ensures { outcome_in result room.new ram.new uds.new ≡ performed (request_of s) s room.old ram.old uds.old }
 {
     match head::decide(s) {

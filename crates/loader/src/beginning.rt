@@ -25,14 +25,8 @@ fn wait(config: Config) -> Step
 }
 
 // What the record's type leads to.
-pub fn by_type(
-    r: Record,
-    udi: [u8; 8],
-    flash: Flash<'_>,
-    ram: &mut [u8],
-    uds: &mut [u32; 8],
-) -> Step
-    requires { length ram.old ≤ longest }
+pub fn by_type(r: Record, udi: [u8; 8], flash: Flash<'_>, ram: &mut [u8], uds: &mut [u32]) -> Step
+    requires { (length ram.old ≤ longest) × (length uds.old ≡ 8) }
     ensures { result_in result ram.new uds.new ≡ by_type (record_of r) udi (lent flash.entry) ram.old uds.old }
 {
     let Flash {

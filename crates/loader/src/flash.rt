@@ -41,9 +41,9 @@ pub fn boot<'a>(
     second: bool,
     size: usize,
     ram: &mut [u8],
-    uds: &mut [u32; 8],
+    uds: &mut [u32],
 ) -> Step
-    requires { length ram.old ≤ longest }
+    requires { (length ram.old ≤ longest) × (length uds.old ≡ 8) }
     ensures { result_in result ram.new uds.new ≡ from_flash (record { bytes = cond second slot1.now slot0.now; size = size }) c ram.old uds.old }
 {
     let program = front(slot0, slot1, second, size);

@@ -33,11 +33,7 @@ pub fn begin(
 ) -> Result<Step, Refusal>
     ensures { result_of result ram.new uds.new ≡ beginning «record».now udi (lent flash.entry) ram.old uds.old }
 {
-    // What is admitted has these lengths.
     head::admit_begin(record.len(), ram.len(), uds.len())?;
-    let Some(uds) = uds.as_mut_array() else {
-        return Err(Refusal::SecretLength);
-    };
     let r = record::read(record::front(record));
     Ok(beginning::by_type(r, udi, flash, ram, uds))
 }
@@ -46,13 +42,6 @@ pub fn begin(
 pub fn act(s: State, room: &mut [u8], ram: &mut [u8], uds: &mut [u32]) -> Result<Acted, Refusal>
     ensures { outcome result s room.new ram.new uds.new ≡ acted s room.old ram.old uds.old }
 {
-    // What is admitted has these lengths.
     head::admit_act(s, room.len(), ram.len(), uds.len())?;
-    let Some(front) = room.first_chunk_mut() else {
-        return Err(Refusal::ReplyRoom);
-    };
-    let Some(uds) = uds.as_mut_array() else {
-        return Err(Refusal::SecretLength);
-    };
-    Ok(acting::perform(s, front, ram, uds))
+    Ok(acting::perform(s, room, ram, uds))
 }

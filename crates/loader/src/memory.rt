@@ -8,8 +8,9 @@ ghost use Rattle.head.specs.Act.{stored_in};
 use protocol::{Frame, Reply};
 
 // Puts a reply at the front of the room.
-pub fn put(room: &mut [u8; 129], r: Reply)
-    requires { r.len ≤ 128 }
+pub fn put(room: &mut [u8], r: Reply)
+    requires in_bounds { 129 ≤ length room.old }
+    requires len_bound { r.len ≤ 128 }
     ensures { room.new ≡ put_in room.old (sent r) }
 {
     room[0] = r.header;

@@ -1,5 +1,5 @@
 // A program that is in RAM and was measured, a client's or one from flash: it starts, or the head stops.
-ghost use Rattle.std.specs.Prelude.{◌≡◌, List, ℕ};
+ghost use Rattle.std.specs.Prelude.{◌≡◌, List, ℕ, length};
 ghost use Rattle.head.specs.Answers.{stop_number, stopped, result_in};
 ghost use Rattle.head.specs.Start.{ending, starting, decided};
 
@@ -16,7 +16,8 @@ pub fn end(why: Stop, ram_len: usize) -> Step
 }
 
 // A start: the device secret is read, and then cleared.
-fn start(c: Config, p: Progress, digest: [u8; 32], uds: &mut [u32; 8]) -> Step
+fn start(c: Config, p: Progress, digest: [u8; 32], uds: &mut [u32]) -> Step
+    requires { length uds.old ≡ 8 }
     ensures { (ram : List ℕ) → result_in result ram uds.new ≡ starting c p digest ram uds.old }
 {
     let secret = super::memory::secret_bytes(uds);
@@ -36,7 +37,8 @@ fn start(c: Config, p: Progress, digest: [u8; 32], uds: &mut [u32; 8]) -> Step
 }
 
 // Starts the program if its digest is allowed. Otherwise the head stops with 25, and the device secret is not read.
-pub fn start_or_stop(c: Config, p: Progress, digest: [u8; 32], uds: &mut [u32; 8]) -> Step
+pub fn start_or_stop(c: Config, p: Progress, digest: [u8; 32], uds: &mut [u32]) -> Step
+    requires { length uds.old ≡ 8 }
     ensures { (ram : List ℕ) → result_in result ram uds.new ≡ decided c p digest ram uds.old }
 {
     if head::allowed(c, digest) {

@@ -1,11 +1,17 @@
 use mathlib.Core.Path.{sym, ◌∙◌}
-use mathlib.Core.Bool.{true}
-use borrow.Author.Tests.{ne_eqb}
-use Rattle.endian.proofs.Same.{same_length, same_fold}
+use native.Mathlib.Omega.{arith}
+use Rattle.endian.proofs.Same.{same_length, same_more, same_end}
 use Rattle.endian.proofs.equal.Goals as goal
 
 pub returns-then-a-b : goal.returns-then-a-b
-returns-then-a-b c = let a = c.args in c.alike.ensures ∙ same_fold true a.a.now a.b.now c.if-a-b.true
+returns-then-a-b c = let z = c.args in sym (same_length z.a.now z.b.now c.if-a-b.true)
 
-pub returns-else-a-b : goal.returns-else-a-b
-returns-else-a-b c = let a = c.args in rw (ne_eqb _ _ c.if-a-b.false) (sym (same_length a.a.now a.b.now c.if-a-b.false))
+pub loop-i-preserved : goal.loop-i-preserved
+loop-i-preserved c =
+    let z = c.args in
+    same_more c.loop-i.so_far z.a.now z.b.now c.loop-i.i (omega arith) (omega arith) ∙ c.loop-i.invariant
+
+pub returns : goal.returns
+returns c =
+    let z = c.args in
+    sym (same_end c.loop-i.so_far z.a.now z.b.now c.loop-i.i (omega arith) (omega arith)) ∙ c.loop-i.invariant

@@ -11,9 +11,9 @@ returns-then-is_last c =
     rw (← (last_block a.s c.from.result c.is_last.result a.room.now a.ram.now _ a.uds.now c.from.ensures c.store.ensures
     c.is_last.ensures c.if-is_last.true)) c.finish.ensures
 
-pub answer-requires : goal.answer-requires
+pub answer-requires-clause-len_bound : goal.answer-requires-clause-len_bound
 unfolding block_reply
-answer-requires c = rw c.block_reply.ensures (omega arith)
+answer-requires-clause-len_bound c = rw c.block_reply.ensures (omega arith)
 
 pub returns : goal.returns
 returns c =

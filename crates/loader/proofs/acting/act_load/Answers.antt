@@ -4,9 +4,9 @@ use Rattle.protocol.specs.Replies.{load_reply}
 use Rattle.loader.proofs.Steps.{load_made}
 use Rattle.loader.proofs.acting.act_load.Goals as goal
 
-pub answer-requires : goal.answer-requires
+pub answer-requires-clause-len_bound : goal.answer-requires-clause-len_bound
 unfolding load_reply
-answer-requires c = rw c.load_reply-reply.ensures (omega arith)
+answer-requires-clause-len_bound c = rw c.load_reply-reply.ensures (omega arith)
 
 pub returns-then-good : goal.returns-then-good
 returns-then-good c =
@@ -14,9 +14,9 @@ returns-then-good c =
     c.read_load-l.ensures c.load_is_good-good.ensures c.load_reply-reply.ensures in
     rw (← m.0, ← (m.1 c.if-good.true), ← c.loaded.ensures) c.answer.ensures
 
-pub answer-requires-2 : goal.answer-requires-2
+pub answer-requires-2-clause-len_bound : goal.answer-requires-2-clause-len_bound
 unfolding load_reply
-answer-requires-2 c = rw c.load_reply-reply.ensures (omega arith)
+answer-requires-2-clause-len_bound c = rw c.load_reply-reply.ensures (omega arith)
 
 pub returns : goal.returns
 returns c =

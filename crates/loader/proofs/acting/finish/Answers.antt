@@ -10,15 +10,15 @@ use Rattle.protocol.specs.declared.Reply.{Reply}
 use Rattle.loader.proofs.Steps.{finished_as}
 use Rattle.loader.proofs.acting.finish.Goals as goal
 
-pub put-requires : goal.put-requires
+pub put-requires-clause-len_bound : goal.put-requires-clause-len_bound
 unfolding digest_reply
-put-requires c = rw c.digest_reply.ensures (omega arith)
+put-requires-clause-len_bound c = rw c.digest_reply.ensures (omega arith)
 
 pub returns : goal.returns
 returns c =
     let a = c.args in
     let sent_digest = c.put.ensures ∙ ap (λ (r : Reply). put_in a.room.now (sent r)) c.digest_reply.ensures in
-    let n = length-take-le a.s.progress.size a.ram.now c.requires.0 in
+    let n = length-take-le a.s.progress.size a.ram.now c.requires.size_in_bounds.0 in
     let short : length (take a.s.progress.size a.ram.now) ≤ 4294967295 = omega arith in
     let measured = c.digest-digest.ensures ∙ digest_zeros (take a.s.progress.size a.ram.now) short in
     finished_as a.s c.digest-digest.result a.room.now a.ram.now a.uds.now c.replied.result c.start_or_stop.result _ _ measured

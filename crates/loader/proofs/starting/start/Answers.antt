@@ -10,7 +10,7 @@ pub returns : goal.returns
 unfolding starting
 returns c =
     let a = c.args in
-    let cleared = c.clear.ensures ∙ ap (λ (n : ℕ). replicate n 0) c.told-uds in
+    let cleared = c.clear.ensures ∙ ap (λ (n : ℕ). replicate n 0) c.requires in
     λ ram. rw (
       c.ended.ensures,
       c.derive-cdi.ensures,
