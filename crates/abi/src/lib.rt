@@ -1,6 +1,6 @@
-// The head for C: begin, gather and act over a state in memory that the caller lends, and reset; a static library. include/mastfrap.h has the
-// calls and what the caller vouches for; specs/Layout.antt says which memory is which state, specs/Calls.antt what each call answers and
-// leaves, and handover's specs/Reset.antt what a reset does.
+// The head for C, and for whatever calls C: begin, gather and act over a state in memory that the caller lends, and reset. include/mastfrap.h
+// has the calls and what the caller vouches for; specs/Layout.antt says which memory is which state, specs/Calls.antt what each call answers
+// and leaves, and handover's specs/Reset.antt what a reset does. `abi_c` is the static library.
 #![tactic(auto)]
 
 mod gathering;
@@ -51,8 +51,7 @@ fn give(a: Answer, start: &mut [u32; 2], cdi: &mut [u8; 32], digest: &mut [u8; 3
 }
 
 // begin.
-#[unsafe(no_mangle)]
-pub extern "C" fn mastfrap_begin<'a>(
+pub fn mastfrap_begin<'a>(
     numbers: &mut [u32; 3],
     bytes: &mut [u8; 268],
     record: &[u8],
@@ -92,8 +91,7 @@ pub extern "C" fn mastfrap_begin<'a>(
 }
 
 // gather, in place: a byte changes the few bytes that it changes.
-#[unsafe(no_mangle)]
-pub extern "C" fn mastfrap_gather(numbers: &mut [u32; 3], bytes: &mut [u8; 268], byte: u8) -> u32
+pub fn mastfrap_gather(numbers: &mut [u32; 3], bytes: &mut [u8; 268], byte: u8) -> u32
     ensures { gather_told result (lent numbers.new bytes.new) ≡ gather_call (lent numbers.old bytes.old) byte }
 {
     let len = framing::body_len(bytes[128]);
@@ -107,8 +105,7 @@ pub extern "C" fn mastfrap_gather(numbers: &mut [u32; 3], bytes: &mut [u8; 268],
 }
 
 // act.
-#[unsafe(no_mangle)]
-pub extern "C" fn mastfrap_act(
+pub fn mastfrap_act(
     numbers: &mut [u32; 3],
     bytes: &mut [u8; 268],
     room: &mut [u8],
@@ -137,8 +134,7 @@ pub extern "C" fn mastfrap_act(
 }
 
 // reset.
-#[unsafe(no_mangle)]
-pub extern "C" fn mastfrap_reset(
+pub fn mastfrap_reset(
     cdi: &mut [u8],
     seed: &[u8],
     next_type: u32,
