@@ -12,8 +12,9 @@ use std::ops::ControlFlow;
 use text::Text;
 
 const COMMAND: Command = Command {
-    name: "diagnose",
-    unreadable: "cannot be read: ",
+    name: "diagnose: ",
+    unreadable: Some("cannot be read"),
+    output: "diagnose: standard output",
 };
 
 fn main(rt: HostRuntime) {

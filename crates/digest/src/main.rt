@@ -11,8 +11,9 @@ use std::ops::ControlFlow;
 use text::{Hex, Text};
 
 const COMMAND: Command = Command {
-    name: "digest",
-    unreadable: "",
+    name: "digest: ",
+    unreadable: None,
+    output: "digest: standard output",
 };
 
 fn main(rt: HostRuntime) {
@@ -43,8 +44,12 @@ fn hash_file<F: Read>(rt: &HostRuntime, file: &mut F, name: &[u8]) -> Result<(),
         Err(why) => Err(COMMAND.fail(rt, name, why).into()),
         // A part is refused only where the file has too many bytes.
         Ok(ControlFlow::Break(_)) => {
-            let why = Text::of("it has more than 4294967295 bytes");
-            Err(COMMAND.refuse(rt, name, why).into())
+            let _ = rt.stderr().write_all(b"digest: ");
+            let _ = rt.stderr().write_all(name);
+            let _ = rt
+                .stderr()
+                .write_all(b": it has more than 4294967295 bytes\n");
+            Err(Undone)
         }
         Ok(ControlFlow::Continue(())) => finish(rt, context, name),
     }

@@ -10,10 +10,12 @@ use text::Text;
 // The words of a command.
 #[derive(Clone, Copy)]
 pub struct Command {
-    // Its name, which each line begins with.
+    // What each line begins with: its name and a colon.
     pub name: &'static str,
-    // What stands before the reason why a file cannot be read.
-    pub unreadable: &'static str,
+    // What is said of a file that cannot be read; none where the name of the file and the reason are all that is said.
+    pub unreadable: Option<&'static str>,
+    // What stands before the reason why standard output cannot be written.
+    pub output: &'static str,
 }
 
 // Why a command ends early; that was said.
@@ -88,9 +90,16 @@ impl Command {
 
     // Says of a file that it cannot be read, and why, as errno does.
     pub fn fail(self, rt: &HostRuntime, file: &[u8], why: io::Error) -> Failure {
-        self.begin_line(rt, file);
-        let _ = rt.stderr().write_all(self.unreadable.as_bytes());
-        write_why(rt, &mut rt.stderr(), why);
+        match self.unreadable {
+            None => {
+                let _ = rt.stderr().write_all(self.name.as_bytes());
+                write_why(rt, &mut rt.stderr(), file, why);
+            }
+            Some(unreadable) => {
+                self.begin_line(rt, file);
+                write_why(rt, &mut rt.stderr(), unreadable.as_bytes(), why);
+            }
+        }
         Failure::File
     }
 
@@ -112,26 +121,31 @@ impl Command {
     // Where not all could be written to standard output, that is said.
     pub fn written(self, rt: &HostRuntime, all: io::Result<()>) -> Result<(), Failure> {
         all.map_err(|why| {
-            self.begin_line(rt, b"standard output");
-            write_why(rt, &mut rt.stderr(), why);
+            write_why(rt, &mut rt.stderr(), self.output.as_bytes(), why);
             Failure::Output
         })
     }
 
     fn begin_line(self, rt: &HostRuntime, file: &[u8]) {
         let _ = rt.stderr().write_all(self.name.as_bytes());
-        let _ = rt.stderr().write_all(b": ");
         let _ = rt.stderr().write_all(file);
         let _ = rt.stderr().write_all(b": ");
     }
 }
 
-// The rest of a line: why something failed, as errno does.
-fn write_why<W: Write>(rt: &impl AllocGlobal, to: &mut W, why: io::Error) {
+// The rest of a line: what failed, and why, as errno does.
+fn write_why<W: Write>(rt: &impl AllocGlobal, to: &mut W, what: &[u8], why: io::Error) {
     if let Ok(said) = format!(in rt.alloc(); "{why}") {
-        let _ = to.write_all(without_number(said.as_str()).as_bytes());
-        let _ = to.write_all(b"\n");
+        let _ = write_line(to, what, without_number(said.as_str()));
     }
+}
+
+// Nothing is written behind a part that cannot be.
+fn write_line<W: Write>(to: &mut W, what: &[u8], why: &str) -> io::Result<()> {
+    to.write_all(what)?;
+    to.write_all(b": ")?;
+    to.write_all(why.as_bytes())?;
+    to.write_all(b"\n")
 }
 
 // The words of an error, before its number.

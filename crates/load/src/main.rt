@@ -10,8 +10,9 @@ use input::Command;
 use upload::{Exchange, Job, Next, Turn};
 
 const COMMAND: Command = Command {
-    name: "load",
-    unreadable: "cannot be read: ",
+    name: "load: ",
+    unreadable: Some("cannot be read"),
+    output: "load: standard output",
 };
 
 // Why nothing is loaded, or a load is not told; that was said.

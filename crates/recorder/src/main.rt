@@ -13,8 +13,9 @@ use std::io;
 use std::io::Read;
 
 const COMMAND: Command = Command {
-    name: "record",
-    unreadable: "",
+    name: "record: ",
+    unreadable: None,
+    output: "record: standard output",
 };
 
 fn main(rt: HostRuntime) {

@@ -13,8 +13,9 @@ use std::io;
 use text::Text;
 
 const COMMAND: Command = Command {
-    name: "spool",
-    unreadable: "cannot be read: ",
+    name: "spool: ",
+    unreadable: Some("cannot be read"),
+    output: "spool: standard output",
 };
 
 // Room for a program: for one that is too long, so that it is refused and not cut, and for all that 278 blocks of a spool can hold, which a
