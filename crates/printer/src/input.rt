@@ -32,6 +32,7 @@ fn udi_of(front: [u8; 296]) -> [u8; 8]
 }
 
 // The UDS as words, lowest byte first.
+#[tactic(auto, unfolding(endian::specs::Endian::word))]
 pub fn words_of(front: [u8; 296]) -> [u32; 8]
     ensures { result ≡ words_in front }
 {

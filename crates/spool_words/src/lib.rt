@@ -55,11 +55,17 @@ fn good_before(bytes: &[u8]) -> usize
     let n = bytes.len() / 512;
     // Not `(0..n).find(..)`: tried, its proof did not close.
     for i in 0..n {
-        if spool::look(bytes, i).is_err() {
+        if !is_good(spool::look(bytes, i)) {
             return i;
         }
     }
     n
+}
+
+fn is_good(answer: Result<(), Refusal>) -> bool
+    ensures { result ≡ eqb (number_of answer) 0 }
+{
+    matches!(answer, Ok(()))
 }
 
 // Why a spool does not read: its length, or the earliest block that is bad.

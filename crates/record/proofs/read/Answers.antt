@@ -1,11 +1,12 @@
 -- The calls give the fields; the type and the mask are numbers of four bytes (`word_in`).
 use Rattle.std.proofs.Common.{rules}
+use Rattle.endian.specs.Endian.{word}
 use Rattle.record.specs.Record.{record_at}
 use Rattle.record.proofs.Fields.{word_in}
 use Rattle.record.proofs.read.Goals as goal
 
 pub returns : goal.returns
-unfolding record_at
+unfolding record_at word
 returns c =
     let l = c.args.bytes in
     rw (

@@ -1,18 +1,11 @@
 -- The number of the answer that a turn looks at is what the block gives there.
 use Prim.Native.Nat.{ℕ, zero, suc, ◌<◌}
-use mathlib.Core.Bool.{true, false}
 use mathlib.Core.Path.{◌≡◌, refl, ap, sym, ◌∙◌}
 use native.Mathlib.Omega.{arith}
 use native.Mathlib.Nat.{le_of_suc-le-suc}
 use borrow.Author.Count.{below_more}
-use borrow.Author.Tests.{eq-eqb, ne_eqb}
-use Rattle.std.specs.Prelude.{Result, Ok, Err, is_err}
+use borrow.Author.Tests.{eq-eqb, ne_eqb, eqb-true, eqb-false}
 use Rattle.endian.specs.Lists.{each}
-use Rattle.endian.proofs.Cases.{impossible}
-use Rattle.spool_block.specs.declared.Fault.TheVariants.{Check, Number, Count}
-use Rattle.spool.specs.declared.Refusal.{Refusal}
-use Rattle.spool.specs.declared.Refusal.TheVariants.{ProgramLength, SpoolLength, Block, RoomLength}
-use Rattle.spool.specs.Answers.{number_of}
 use Rattle.spool.specs.Reading.{blocks_in, look_refusal}
 use Rattle.spool_words.specs.Words.{zeros_before, good_before}
 use Rattle.spool_words.proofs.good_before.Goals as goal
@@ -31,31 +24,17 @@ before_all zero f z = refl
 before_all (suc n) f z =
     rw (eq-eqb (f 0) 0 (z 0 (omega arith))) (ap suc (before_all n (λ j. f (suc j)) (λ j h. z (suc j) (omega arith))))
 
--- an error has a number, and only an error has
-bad : (a : Result (Unit {0}) Refusal) → is_err a ≡ true → number_of a ≡ 0 → ⊥
-bad (Ok u) e z = impossible cc
-bad (Err ProgramLength) e z = omega arith
-bad (Err SpoolLength) e z = omega arith
-bad (Err (Block Check)) e z = omega arith
-bad (Err (Block Number)) e z = omega arith
-bad (Err (Block Count)) e z = omega arith
-bad (Err RoomLength) e z = omega arith
-
-good : (a : Result (Unit {0}) Refusal) → is_err a ≡ false → number_of a ≡ 0
-good (Ok u) e = refl
-good (Err r) e = impossible cc
-
-pub returns-then-is_err : goal.returns-then-is_err
+pub returns-then-not-is_good : goal.returns-then-not-is_good
 unfolding good_before
-returns-then-is_err c =
+returns-then-not-is_good c =
     let s = c.args.bytes.now in
-    let e = sym c.is_err.ensures.value ∙ c.if-is_err.true in
-    sym (before_at (blocks_in s) c.loop-i.i (look_refusal s) (omega arith) c.loop-i.invariant (λ q. bad c.look.result e (c.look.ensures ∙ q)))
+    let e = sym c.is_good.ensures ∙ c.if-not-is_good.true in
+    sym (before_at (blocks_in s) c.loop-i.i (look_refusal s) (omega arith) c.loop-i.invariant (λ q. eqb-false _ _ e (c.look.ensures ∙ q)))
 
 pub loop-i-preserved : goal.loop-i-preserved
 loop-i-preserved c =
-    let e = sym c.is_err.ensures.value ∙ c.if-is_err.false in
-    below_more _ _ c.loop-i.invariant (sym c.look.ensures ∙ good c.look.result e)
+    let e = sym c.is_good.ensures ∙ c.if-not-is_good.false in
+    below_more _ _ c.loop-i.invariant (sym c.look.ensures ∙ eqb-true _ _ e)
 
 pub returns : goal.returns
 unfolding good_before
